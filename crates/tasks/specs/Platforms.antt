@@ -35,5 +35,8 @@ allBelow n [] = true
 allBelow n (x ∷ xs) = ltb x n && allBelow n xs
 
 -- 1 to 16 cores, and a core for each favoured port
+abbrev pub coresFit : ℕ → List ℕ → Bool
+coresFit cores favours = leb 1 cores && leb cores 16 && allBelow cores favours
+
 abbrev pub coresVerdict : ℕ → List ℕ → Result (Unit {0}) Told
-coresVerdict cores favours = cond (leb 1 cores && leb cores 16 && allBelow cores favours) (Ok tt) (Err (refusal 6))
+coresVerdict cores favours = cond (coresFit cores favours) (Ok tt) (Err (refusal 6))

@@ -1,0 +1,2 @@
+// The settler: a plan of tasks, and the calls that makers make on it.
+pub mod plan;

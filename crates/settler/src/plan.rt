@@ -1,0 +1,34 @@
+// A plan: the tasks of every core, and what was settled for them.
+ghost use mathlib.Core.Path.{_≡_};
+ghost use mathlib.Core.Bool.{true};
+ghost use Prim.Native.Nat.{_≤_};
+ghost use Rattle.std.specs.Of.Vec.{vec-len, vec-cap, vec-items};
+ghost use Rattle.tasks.specs.Platforms.{coresFit, favoured};
+ghost use Rattle.settler.specs.Rules.{EachATask, AllApart};
+use tasks::outcome::Outcome;
+use tasks::platform::Platform;
+use tasks::task::Row;
+
+pub mod edits;
+mod lookup;
+
+// The most tasks of a plan.
+pub const MOST_TASKS: usize = 64;
+
+// Rows are kept in the order of adding. What its ghost fields say holds of every plan: a plan cannot hold a wrong task.
+#[derive(Drop)]
+pub struct Plan {
+    platform: Platform,
+    rows: Vec<Row>,
+    // one for each row, as long as `settled` says so
+    outcomes: Vec<Outcome>,
+    settled: bool,
+    ghost platform_ok: { coresFit (platform .cores) (favoured (platform .line .favours)) ≡ true },
+    ghost few: { vec-len rows ≤ 64 },
+    ghost tasks_ok: { EachATask (platform .cores) (vec-items rows) },
+    ghost all_apart: { AllApart (vec-items rows) },
+    ghost told_all: { settled ≡ true → vec-len outcomes ≡ vec-len rows },
+    // what open reserved, so that no later call asks for memory
+    ghost row_room: { 64 ≤ vec-cap rows },
+    ghost outcome_room: { 64 ≤ vec-cap outcomes },
+}
