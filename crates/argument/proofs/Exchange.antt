@@ -1,6 +1,6 @@
 -- Sums by group, unions, one at most, the greatest.
 use mathlib.Core.Path.{_≡_, refl, sym, ap, subst, _∙_}
-use mathlib.Core.Logic.{inl, inr}
+use mathlib.Core.Logic.{_⊎_, inl, inr}
 use mathlib.Core.Bool.{Bool, true, false, _&&_, _||_}
 use Prim.Native.Nat.{ℕ, zero, suc, _+_, _*_, _≤_, _<_}
 use native.Mathlib.Omega.{arith}
@@ -131,4 +131,16 @@ greatest-point (suc n) f k l =
     elim (cases-lt k n) [
       | inl b ↦ omega (arith, greatest-point n f k b)
       | inr b ↦ omega (arith, ap f (last n k l b))
+    ]
+
+-- the greatest is one of them, or 0
+pub greatest-reached : (n : ℕ) (f : ℕ → ℕ) → (greatest n f ≡ 0) ⊎ ((k : ℕ) × (k < n) × (f k ≡ greatest n f))
+greatest-reached zero f = inl refl
+greatest-reached (suc n) f =
+    elim (cases-lt (greatest n f) (f n)) [
+      | inl more ↦ inr (n, omega arith, omega arith)
+      | inr less ↦ elim (greatest-reached n f) [
+        | inl none ↦ inl (omega arith)
+        | inr found ↦ inr (found .0, omega (arith, found .1), omega (arith, found .2))
+      ]
     ]

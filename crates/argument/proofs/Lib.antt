@@ -6,3 +6,8 @@ mod Shares
 mod Reach
 mod Greedy
 mod Least
+mod BusyWindow
+mod Cover
+mod OwnTicks
+mod OtherCores
+mod Bound

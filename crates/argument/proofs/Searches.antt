@@ -23,17 +23,17 @@ all-or (suc n) A B d =
     ]
 
 -- the greatest moment at or before p with A
-pub greatest : (A B : ℕ → Type 0) → ((t : ℕ) → A t ⊎ B t) → A 0 → (p : ℕ)
+pub greatest-moment : (A B : ℕ → Type 0) → ((t : ℕ) → A t ⊎ B t) → A 0 → (p : ℕ)
     → (t : ℕ) × (t ≤ p) × A t × ((u : ℕ) → t < u → u ≤ p → B u)
-greatest A B d a zero = (0, omega arith, a, λ u l m. absurd (nothing u l m))
+greatest-moment A B d a zero = (0, omega arith, a, λ u l m. absurd (nothing u l m))
   where
     nothing : (u : ℕ) → 0 < u → u ≤ 0 → ⊥
     nothing u l m = omega arith
-greatest A B d a (suc p) =
+greatest-moment A B d a (suc p) =
     elim (d (suc p)) [
       | inl here ↦ (suc p, omega arith, here, λ u l m. absurd (nothing u l m))
       | inr not ↦
-          let g = greatest A B d a p in (
+          let g = greatest-moment A B d a p in (
             g .0,
             omega (arith, g .1),
             g .2,

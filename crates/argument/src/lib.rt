@@ -1,5 +1,10 @@
 // Why a window is right. No program here: each function carries one theorem on its contract.
-ghost use Rattle.argument.specs.Theorems.{Longest-first-reaches-the-share, The-share-is-the-greatest-total-of-any-choice, Demand-never-falls, A-jump-passes-no-covering-number, The-search-misses-no-covering-number, The-outcome-is-fixed};
+ghost use Rattle.argument.specs.Theorems.{Every-job-ends-within-its-window-in-general, Longest-first-reaches-the-share, The-share-is-the-greatest-total-of-any-choice, Demand-never-falls, A-jump-passes-no-covering-number, The-search-misses-no-covering-number, The-outcome-is-fixed};
+
+pub fn every_job_ends_within_its_window_in_general()
+    ensures { λ _. ⌜ Every-job-ends-within-its-window-in-general ⌝ }
+{
+}
 
 pub fn longest_first_reaches_the_share()
     ensures { λ _. ⌜ Longest-first-reaches-the-share ⌝ }
