@@ -11,3 +11,4 @@ mod Cover
 mod OwnTicks
 mod OtherCores
 mod Bound
+mod Instance
