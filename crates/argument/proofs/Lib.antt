@@ -12,3 +12,6 @@ mod OwnTicks
 mod OtherCores
 mod Bound
 mod Instance
+mod Laws
+mod Checks
+mod Sample
