@@ -1,0 +1,114 @@
+-- The longest first, of a list that falls, total the share.
+use mathlib.Core.Path.{_≡_, refl, sym, ap, _∙_}
+use mathlib.Core.Logic.{inl, inr}
+use mathlib.Core.List.{List, [], _∷_}
+use Prim.Native.Nat.{ℕ, zero, suc, _+_, _*_, _-_, min, max, _≤_, _<_}
+use native.Mathlib.Omega.{arith}
+use lib.Dec.{ltb}
+use Rattle.std.proofs.shelf.Tests.{cases-lt, lt-ltb, le-ltb}
+use Rattle.tasks.specs.declared.limit.Limit.{Limit}
+use Rattle.tasks.specs.declared.limit.Limit.the-variants.{Phases, Unlimited}
+use Rattle.tasks.specs.Limits.{capped}
+use Rattle.argument.specs.Sums.{sum, on, greatest}
+use Rattle.argument.specs.Plans.{Plan}
+use Rattle.argument.specs.Demand.{offered, longer, share}
+use Rattle.argument.specs.Greedy.{less, taken, NoneLonger, Falling, manyLonger, Offers}
+use Rattle.argument.specs.Theorems.{Longest-first-reaches-the-share}
+use Rattle.argument.proofs.Sums.{sum-zero, sum-eq, sum-add, sum-split}
+use Rattle.argument.proofs.Counts.{on-true, on-false}
+use Rattle.argument.proofs.Exchange.{greatest-point}
+use Rattle.argument.proofs.Shares.{layers}
+
+none-longer : (phases : List (ℕ × ℕ)) (most l : ℕ) → NoneLonger most phases → most ≤ l → manyLonger l phases ≡ 0
+none-longer [] most l h k = refl
+none-longer ((length, many) ∷ rest) most l h k =
+    omega (arith, none-longer rest most l (h .1) k, on-false (ltb l length) many (le-ltb l length (omega (arith, h .0))))
+
+capped-none : (limit : Limit) → capped limit 0 ≡ 0
+capped-none (Phases m) = omega arith
+capped-none Unlimited = refl
+
+-- the front first, then what the limit still lets through
+capped-add : (limit : Limit) (m n : ℕ) → capped limit (m + n) ≡ capped limit m + capped (less limit m) n
+capped-add (Phases k) m n = omega arith
+capped-add Unlimited m n = refl
+
+most-up : (m k : ℕ) (phases : List (ℕ × ℕ)) → NoneLonger m phases → m ≤ k → NoneLonger k phases
+most-up m k [] h l = tt
+most-up m k ((length, many) ∷ rest) h l = (omega (arith, h .0), most-up m k rest (h .1) l)
+
+-- tick by tick of length
+by-layers : (phases : List (ℕ × ℕ)) (limit : Limit) (most : ℕ) → Falling phases → NoneLonger most phases
+    → taken limit phases ≡ sum most (λ l. capped limit (manyLonger l phases))
+by-layers [] limit most f m = sym (sum-zero most (λ l. capped limit 0) (λ l _. capped-none limit))
+by-layers ((length, many) ∷ rest) limit most f m =
+    omega (
+      arith,
+      by-layers rest (less limit many) most (f .1) (m .1),
+      layers most length (capped limit many) (m .0),
+      sum-add most (λ l. on (ltb l length) (capped limit many)) (λ l. capped (less limit many) (manyLonger l rest)),
+      sum-eq most (λ l. capped limit (on (ltb l length) many + manyLonger l rest))
+          (λ l. on (ltb l length) (capped limit many) + capped (less limit many) (manyLonger l rest)) each,
+    )
+  where
+    each : (l : ℕ) → l < most → capped limit (on (ltb l length) many + manyLonger l rest)
+        ≡ on (ltb l length) (capped limit many) + capped (less limit many) (manyLonger l rest)
+    each l _ =
+        elim (cases-lt l length) [
+          | inl b ↦
+              ap (λ n. capped limit (n + manyLonger l rest)) (on-true (ltb l length) many (lt-ltb l length b))
+              ∙ capped-add limit many (manyLonger l rest)
+              ∙ ap (λ n. n + capped (less limit many) (manyLonger l rest)) (sym (on-true (ltb l length) (capped limit many) (lt-ltb l length b)))
+          | inr b ↦
+              let z = none-longer rest length l (f .0) b in
+              let y : on (ltb l length) many + manyLonger l rest ≡ 0 = omega (arith, on-false (ltb l length) many (le-ltb l length b), z) in
+              omega (
+                arith,
+                on-false (ltb l length) (capped limit many) (le-ltb l length b),
+                ap (capped limit) y,
+                ap (capped (less limit many)) z,
+                capped-none limit,
+                capped-none (less limit many),
+              )
+        ]
+
+-- a common height over both
+layers-more : (plan : Plan) (core w : ℕ) (limit : Limit) (extra : ℕ)
+    → sum (greatest (plan .size) (λ u. max (plan .row u .a) (plan .row u .r)) + extra) (λ l. capped limit (longer plan core w l)) ≡ share plan core w limit
+layers-more plan core w limit extra =
+    omega (
+      arith,
+      sum-split M extra (λ l. capped limit (longer plan core w l)),
+      sum-zero extra (λ l. capped limit (longer plan core w (M + l))) (λ l _. ap (capped limit) (none l) ∙ capped-none limit),
+    )
+  where
+    M : ℕ
+    M = greatest (plan .size) (λ u. max (plan .row u .a) (plan .row u .r))
+
+    none : (l : ℕ) → longer plan core w (M + l) ≡ 0
+    none l = sum-zero (plan .size)
+        (λ u. on (ltb (M + l) (plan .row u .a)) (offered core w (plan .row u)) + on (ltb (M + l) (plan .row u .r)) (offered core w (plan .row u)))
+        (λ u k. let top = greatest-point (plan .size) (λ u. max (plan .row u .a) (plan .row u .r)) u k in
+          omega (
+            arith,
+            on-false (ltb (M + l) (plan .row u .a)) (offered core w (plan .row u)) (le-ltb (M + l) (plan .row u .a) (omega (arith, top))),
+            on-false (ltb (M + l) (plan .row u .r)) (offered core w (plan .row u)) (le-ltb (M + l) (plan .row u .r) (omega (arith, top))),
+          ))
+
+longest : List (ℕ × ℕ) → ℕ
+longest [] = 0
+longest ((length, many) ∷ rest) = max length (longest rest)
+
+longest-most : (phases : List (ℕ × ℕ)) → NoneLonger (longest phases) phases
+unfolding longest
+longest-most [] = tt
+longest-most ((length, many) ∷ rest) = (omega arith, most-up (longest rest) (max length (longest rest)) rest (longest-most rest) (omega arith))
+
+pub longest-first : Longest-first-reaches-the-share
+longest-first plan core w limit phases falling offers =
+    by-layers phases limit (M + longest phases) falling (most-up (longest phases) (M + longest phases) phases (longest-most phases) (omega arith))
+    ∙ sum-eq (M + longest phases) (λ l. capped limit (manyLonger l phases)) (λ l. capped limit (longer plan core w l)) (λ l _. ap (capped limit) (offers l))
+    ∙ layers-more plan core w limit (longest phases)
+  where
+    M : ℕ
+    M = greatest (plan .size) (λ u. max (plan .row u .a) (plan .row u .r))

@@ -1,0 +1,17 @@
+mod Sums
+mod Counts
+mod Searches
+mod Exchange
+mod Shares
+mod Reach
+mod Greedy
+mod Least
+mod BusyWindow
+mod Cover
+mod OwnTicks
+mod OtherCores
+mod Bound
+mod Instance
+mod Laws
+mod Checks
+mod Sample

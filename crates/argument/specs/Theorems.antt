@@ -1,0 +1,94 @@
+-- What is proved: each statement here stands on the contract of a public function of this crate. Assumes nothing.
+use mathlib.Core.Path.{_≡_}
+use mathlib.Core.Bool.{Bool}
+use mathlib.Core.List.{List}
+use Prim.Native.Nat.{ℕ, _+_, _*_, _≤_, _<_}
+use Rattle.tasks.specs.declared.limit.Limit.{Limit}
+use Rattle.tasks.specs.declared.outcome.Outcome.{Outcome}
+use Rattle.argument.specs.Plans.{Plan, SoundPlan}
+use Rattle.argument.specs.Demand.{share, GreatestTotal, demand, WindowFor, Settles}
+use Rattle.argument.specs.Greedy.{taken, Falling, Offers, searched}
+use Rattle.argument.specs.Logs.{Log, Law, one-at-a-time, KeepsTheLaws, KeepsAllBut, EndsWithin, SomeJobEndsBeyond}
+use Rattle.argument.specs.General as General
+
+-- every task has a number from 1 to its deadline that covers its demand
+abbrev pub AllCovered : Plan → (ℕ → ℕ → Limit) → (ℕ → ℕ) → Type 0
+AllCovered plan limits windows = (place : ℕ) → place < plan .size → WindowFor plan limits place (windows place)
+
+-- ---- the bound
+
+-- if every task has a window, then in every log that keeps the laws, of any number of rows, every job ends within its task's window
+abbrev pub Every-job-ends-within-its-window : Type 0
+Every-job-ends-within-its-window = (plan : Plan) (limits : ℕ → ℕ → Limit) (log : Log) (windows : ℕ → ℕ)
+    → SoundPlan plan → AllCovered plan limits windows → KeepsTheLaws plan limits log → EndsWithin windows log
+
+-- the same for logs in which jobs of one core may overlap
+abbrev pub One-job-at-a-time-is-not-needed : Type 0
+One-job-at-a-time-is-not-needed = (plan : Plan) (limits : ℕ → ℕ → Limit) (log : Log) (windows : ℕ → ℕ)
+    → SoundPlan plan → AllCovered plan limits windows → KeepsAllBut one-at-a-time plan limits log → EndsWithin windows log
+
+-- the bound needs a law: some log of a sound plan with windows keeps all the others, and has a job beyond its window
+pub record Needed (law : Law) : Type 0 where
+  pub plan : Plan
+  pub limits : ℕ → ℕ → Limit
+  pub windows : ℕ → ℕ
+  pub log : Log
+  pub sound : SoundPlan plan
+  pub covered : AllCovered plan limits windows
+  pub keeps : KeepsAllBut law plan limits log
+  pub late : SomeJobEndsBeyond windows log
+
+-- a window cannot be trusted while another task is late: some log of a sound plan keeps all laws, one task has a number that covers, and
+-- a job of it ends beyond that number, since a task of another core has no such number
+pub record A-window-alone-is-not-enough : Type 0 where
+  pub plan : Plan
+  pub limits : ℕ → ℕ → Limit
+  pub log : Log
+  pub place : ℕ
+  pub ticks : ℕ
+  pub sound : SoundPlan plan
+  pub window : WindowFor plan limits place ticks
+  pub keeps : KeepsTheLaws plan limits log
+  pub job : ℕ
+  pub known : job < log .size
+  pub of-task : log .job job .task ≡ place
+  pub late : log .job job .release + ticks < log .job job .end
+
+-- the bound over turns, for jobs with any number of them, a delay from release to ready, a reach, and groups of cores
+abbrev pub Every-job-ends-within-its-window-in-general : Type 0
+Every-job-ends-within-its-window-in-general =
+    (group : ℕ → ℕ → Bool) (limits : ℕ → ℕ → Limit) (plan : General.Plan) (log : General.Log) (windows : ℕ → ℕ)
+    → ((u : ℕ) → u < plan .size → 1 ≤ plan .task u .spacing)
+    → ((u : ℕ) → u < plan .size → General.WindowFor group limits plan (plan .task u) (windows u))
+    → General.Lawful group limits plan log
+    → (k : ℕ) → k < log .size → log .job k .end ≤ log .job k .ready + windows (log .job k .task)
+
+-- ---- demand
+
+-- some choice of offered phases totals the share, and none totals more
+abbrev pub The-share-is-the-greatest-total-of-any-choice : Type 0
+The-share-is-the-greatest-total-of-any-choice = (plan : Plan) (core w : ℕ) (limit : Limit) → GreatestTotal plan core w limit (share plan core w limit)
+
+-- the longest phases first, as many as the limit lets through, total the share
+abbrev pub Longest-first-reaches-the-share : Type 0
+Longest-first-reaches-the-share = (plan : Plan) (core w : ℕ) (limit : Limit) (phases : List (ℕ × ℕ))
+    → Falling phases → Offers plan core w phases → taken limit phases ≡ share plan core w limit
+
+-- demand never falls as the number of ticks grows
+abbrev pub Demand-never-falls : Type 0
+Demand-never-falls = (plan : Plan) (limits : ℕ → ℕ → Limit) (place v w : ℕ) → v ≤ w → demand plan limits place v ≤ demand plan limits place w
+
+-- no number from w on is covered before the demand of w is reached: the search may go on there
+abbrev pub A-jump-passes-no-covering-number : Type 0
+A-jump-passes-no-covering-number = (plan : Plan) (limits : ℕ → ℕ → Limit) (place w v : ℕ)
+    → w ≤ v → demand plan limits place v ≤ v → demand plan limits place w ≤ v
+
+-- the search from 1 ends with the outcome of the task, after at most D jumps
+abbrev pub The-search-misses-no-covering-number : Type 0
+The-search-misses-no-covering-number = (plan : Plan) (limits : ℕ → ℕ → Limit) (place : ℕ)
+    → Settles plan limits place (searched plan limits place (plan .row place .deadline) 1)
+
+-- a task has one outcome only
+abbrev pub The-outcome-is-fixed : Type 0
+The-outcome-is-fixed = (plan : Plan) (limits : ℕ → ℕ → Limit) (place : ℕ) (first second : Outcome)
+    → Settles plan limits place first → Settles plan limits place second → first ≡ second

@@ -1,0 +1,99 @@
+// Why a window is right. No program here: each function carries one theorem on its contract.
+ghost use Rattle.argument.specs.Theorems.{Every-job-ends-within-its-window, One-job-at-a-time-is-not-needed, Every-job-ends-within-its-window-in-general, The-share-is-the-greatest-total-of-any-choice, Longest-first-reaches-the-share, Demand-never-falls, A-jump-passes-no-covering-number, The-search-misses-no-covering-number, The-outcome-is-fixed};
+ghost use Rattle.argument.specs.Samples.{The-box-and-its-log-keep-the-laws, The-box-under-the-queue, The-box-with-port-0-favoured, The-box-with-a-nearer-deadline, The-box-with-a-late-task, Three-of-four-phases, A-lone-task-needs-its-own-ticks};
+
+// In every log that keeps the laws, every job ends within its task's window.
+pub fn every_job_ends_within_its_window()
+    ensures { λ _. ⌜ Every-job-ends-within-its-window ⌝ }
+{
+}
+
+// The same, where jobs of one core may overlap.
+pub fn one_job_at_a_time_is_not_needed()
+    ensures { λ _. ⌜ One-job-at-a-time-is-not-needed ⌝ }
+{
+}
+
+// The same, over turns: the theorem that the others are instances of.
+pub fn every_job_ends_within_its_window_in_general()
+    ensures { λ _. ⌜ Every-job-ends-within-its-window-in-general ⌝ }
+{
+}
+
+// Some choice of offered phases totals the share, and none totals more.
+pub fn the_share_is_the_greatest_total_of_any_choice()
+    ensures { λ _. ⌜ The-share-is-the-greatest-total-of-any-choice ⌝ }
+{
+}
+
+// Taking the longest phases first gives the share.
+pub fn longest_first_reaches_the_share()
+    ensures { λ _. ⌜ Longest-first-reaches-the-share ⌝ }
+{
+}
+
+// More ticks, no less demand.
+pub fn demand_never_falls()
+    ensures { λ _. ⌜ Demand-never-falls ⌝ }
+{
+}
+
+// From w the search may go on at the demand of w.
+pub fn a_jump_passes_no_covering_number()
+    ensures { λ _. ⌜ A-jump-passes-no-covering-number ⌝ }
+{
+}
+
+// The search by jumps ends with the outcome of the task.
+pub fn the_search_misses_no_covering_number()
+    ensures { λ _. ⌜ The-search-misses-no-covering-number ⌝ }
+{
+}
+
+// The definition of the outcome leaves no choice.
+pub fn the_outcome_is_fixed()
+    ensures { λ _. ⌜ The-outcome-is-fixed ⌝ }
+{
+}
+
+// What the bound supposes can be had.
+pub fn the_three_task_boxs_own_log_keeps_the_laws()
+    ensures { λ _. ⌜ The-box-and-its-log-keep-the-laws ⌝ }
+{
+}
+
+// Windows of 31, 31 and 20.
+pub fn the_three_task_box_under_the_queue()
+    ensures { λ _. ⌜ The-box-under-the-queue ⌝ }
+{
+}
+
+// Then task 3 has 30.
+pub fn the_three_task_box_with_port_0_favoured()
+    ensures { λ _. ⌜ The-box-with-port-0-favoured ⌝ }
+{
+}
+
+// With D = 20 for task 3: 25, 25 and 20.
+pub fn the_three_task_box_with_a_nearer_deadline()
+    ensures { λ _. ⌜ The-box-with-a-nearer-deadline ⌝ }
+{
+}
+
+// With D = 19 task 3 is late with 20, and task 1 keeps 25.
+pub fn the_three_task_box_with_a_late_task()
+    ensures { λ _. ⌜ The-box-with-a-late-task ⌝ }
+{
+}
+
+// Of 4, 4, 2, 2 at most three total 10, at most none 0.
+pub fn three_of_four_phases()
+    ensures { λ _. ⌜ Three-of-four-phases ⌝ }
+{
+}
+
+// Phases 1, 1, 1 and T = D = 3: a window of 3.
+pub fn a_lone_task_needs_its_own_ticks()
+    ensures { λ _. ⌜ A-lone-task-needs-its-own-ticks ⌝ }
+{
+}
