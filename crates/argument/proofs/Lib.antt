@@ -1,11 +1,11 @@
-mod Sums
+pub mod Sums
 mod Counts
 mod Searches
 mod Exchange
 mod Shares
 mod Reach
-mod Greedy
-mod Least
+pub mod Greedy
+pub mod Least
 mod BusyWindow
 mod Cover
 mod OwnTicks

@@ -1,0 +1,4 @@
+// The settler's arithmetic: offered phases, shares, demand, and the search for one task's outcome.
+pub mod cap;
+pub mod offer;
+pub mod share;
