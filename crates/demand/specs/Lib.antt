@@ -1,2 +1,3 @@
 pub mod Caps
 pub mod Offers
+pub mod Rows

@@ -1,4 +1,5 @@
 // The settler's arithmetic: offered phases, shares, demand, and the search for one task's outcome.
 pub mod cap;
 pub mod offer;
+pub mod own;
 pub mod share;
