@@ -233,9 +233,6 @@ has-some m h l = (trailingZeros 16 m, one-has m _ (trailing-digit 16 m (trailing
 
 -- ---- what the code's tests say
 
-pub flag-is : (a : ℕ) → a < 16 → (1 * 2 ^ (a % 16)) % 65536 ≡ 2 ^ a
-flag-is a h = let e : a % 16 ≡ a = omega arith in ap (λ x. (1 * 2 ^ x) % 65536) e ∙ one-shl a 16 h
-
 pub flag-set : (m a f : ℕ) → f ≡ 2 ^ a → (bitAnd m f ≡ 0 → ⊥) → has m a ≡ true
 flag-set m a f e n = elim (cases-bool (has m a)) [
   | inl t ↦ t

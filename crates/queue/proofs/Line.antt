@@ -8,30 +8,13 @@ use native.Mathlib.Omega.{arith}
 use lib.Dec.{eqb, ltb}
 use lib.ListN.{length, take, drop, getD}
 use lib.Seq.{take-append-le}
-use Rattle.std.proofs.shelf.Tests.{cases-eq, both-ways, eq-eqb, ne-eqb, ltb-true, lt-ltb}
+use Rattle.std.proofs.shelf.Tests.{cases-eq, both-ways, eq-eqb, ne-eqb, ltb-true, lt-ltb, and-parts, and-from, not-true, not-from-false}
 use Rattle.std.specs.declared.option.Option.{Option}
 use Rattle.std.specs.declared.option.Option.the-variants.{Some, None}
 use Rattle.tasks.specs.Platforms.{allBelow}
 use Rattle.queue.specs.Lines.{among, ahead, apart, away}
 
 -- ---- the standing facts as products
-
-both : (u v : Bool) → (u && v) ≡ true → (u ≡ true) × (v ≡ true)
-both true true e = (refl, refl)
-both true false e = absurd (both-ways false refl e)
-both false v e = absurd (both-ways false refl e)
-
-join-both : (u v : Bool) → u ≡ true → v ≡ true → (u && v) ≡ true
-join-both true true e f = refl
-join-both true false e f = absurd (both-ways false refl f)
-join-both false v e f = absurd (both-ways false refl e)
-
-un-not : (u : Bool) → not u ≡ true → u ≡ false
-un-not true e = absurd (both-ways false refl e)
-un-not false e = refl
-
-to-not : (u : Bool) → u ≡ false → not u ≡ true
-to-not u e = rw e refl
 
 abbrev pub Apart : List ℕ → Type 0
 Apart [] = Unit {0}
@@ -43,30 +26,30 @@ Ports n (x ∷ xs) = (x < n) × Ports n xs
 
 pub apart-in : (xs : List ℕ) → apart xs ≡ true → Apart xs
 apart-in [] e = tt
-apart-in (x ∷ xs) e = let k = both (not (among x xs)) (apart xs) e in (un-not (among x xs) (k .0), apart-in xs (k .1))
+apart-in (x ∷ xs) e = let k = and-parts (not (among x xs)) (apart xs) e in (not-true (among x xs) (k .0), apart-in xs (k .1))
 
 pub apart-out : (xs : List ℕ) → Apart xs → apart xs ≡ true
 apart-out [] p = refl
-apart-out (x ∷ xs) p = join-both (not (among x xs)) (apart xs) (to-not (among x xs) (p .0)) (apart-out xs (p .1))
+apart-out (x ∷ xs) p = and-from (not (among x xs)) (apart xs) (not-from-false (among x xs) (p .0)) (apart-out xs (p .1))
 
 pub ports-in : (n : ℕ) (xs : List ℕ) → allBelow n xs ≡ true → Ports n xs
 ports-in n [] e = tt
-ports-in n (x ∷ xs) e = let k = both (ltb x n) (allBelow n xs) e in (ltb-true x n (k .0), ports-in n xs (k .1))
+ports-in n (x ∷ xs) e = let k = and-parts (ltb x n) (allBelow n xs) e in (ltb-true x n (k .0), ports-in n xs (k .1))
 
 pub ports-out : (n : ℕ) (xs : List ℕ) → Ports n xs → allBelow n xs ≡ true
 ports-out n [] p = refl
-ports-out n (x ∷ xs) p = join-both (ltb x n) (allBelow n xs) (lt-ltb x n (p .0)) (ports-out n xs (p .1))
+ports-out n (x ∷ xs) p = and-from (ltb x n) (allBelow n xs) (lt-ltb x n (p .0)) (ports-out n xs (p .1))
 
 pub away-in : (n : ℕ) (xs : List ℕ) (s : Option ℕ) → away n xs s ≡ true → (p : ℕ) → s ≡ Some p → (p < n) × (among p xs ≡ false)
 away-in n xs None e p f = absurd (let z : _≡_ {A = ℕ} 0 1 = cc in omega arith)
 away-in n xs (Some q) e p f =
-    let k = both (ltb q n) (not (among q xs)) e in
+    let k = and-parts (ltb q n) (not (among q xs)) e in
     let same : q ≡ p = cc in
-    (omega (arith, ltb-true q n (k .0)), ap (λ x. among x xs) (sym same) ∙ un-not (among q xs) (k .1))
+    (omega (arith, ltb-true q n (k .0)), ap (λ x. among x xs) (sym same) ∙ not-true (among q xs) (k .1))
 
 pub away-out : (n : ℕ) (xs : List ℕ) (s : Option ℕ) → ((p : ℕ) → s ≡ Some p → (p < n) × (among p xs ≡ false)) → away n xs s ≡ true
 away-out n xs None h = refl
-away-out n xs (Some q) h = let k = h q refl in join-both (ltb q n) (not (among q xs)) (lt-ltb q n (k .0)) (to-not (among q xs) (k .1))
+away-out n xs (Some q) h = let k = h q refl in and-from (ltb q n) (not (among q xs)) (lt-ltb q n (k .0)) (not-from-false (among q xs) (k .1))
 
 -- ---- who stands in a line
 
@@ -205,7 +188,7 @@ pub away-joined : (n : ℕ) (xs : List ℕ) (a : ℕ) (s : Option ℕ) → away 
 away-joined n xs a s e u = away-out n (xs ++ (a ∷ [])) s (λ p f. let k = away-in n xs s e p f in (k .0, among-other xs a p (λ q. u (f ∙ ap Some q)) ∙ k .1))
 
 pub away-granted : (n : ℕ) (c : ℕ) (ys : List ℕ) → allBelow n (c ∷ ys) ≡ true → apart (c ∷ ys) ≡ true → away n ys (Some c) ≡ true
-away-granted n c ys e f = let k = ports-in n (c ∷ ys) e in let l = apart-in (c ∷ ys) f in join-both (ltb c n) (not (among c ys)) (lt-ltb c n (k .0)) (to-not (among c ys) (l .0))
+away-granted n c ys e f = let k = ports-in n (c ∷ ys) e in let l = apart-in (c ∷ ys) f in and-from (ltb c n) (not (among c ys)) (lt-ltb c n (k .0)) (not-from-false (among c ys) (l .0))
 
 -- the line without its first
 pub front : (n : ℕ) (xs : List ℕ) → 0 < n → n ≤ length xs → take n xs ≡ getD xs 0 0 ∷ take (n - 1) (drop 1 xs ++ take 1 xs)
