@@ -66,25 +66,20 @@ Facts ports batch joined served =
     × (((p : ℕ) → has batch p ≡ true → has joined p ≡ false)
     × (((p : ℕ) → served ≡ Some p → p < ports) × (((p : ℕ) → served ≡ Some p → inEither batch joined p ≡ false) × Unit {0}))))))
 
+facts : (ports batch joined : ℕ) (served : Option ℕ) → 1 ≤ ports → ports ≤ 16 → batch < 2 ^ ports → joined < 2 ^ ports
+    → ((p : ℕ) → has batch p ≡ true → has joined p ≡ false)
+    → ((p : ℕ) → served ≡ Some p → p < ports) → ((p : ℕ) → served ≡ Some p → inEither batch joined p ≡ false) → Facts ports batch joined served
+facts ports batch joined served some few low fresh apart port gone = (some, (few, (low, (fresh, (apart, (port, (gone, tt)))))))
+
 pub joined-facts : (s : Batches) (a f : ℕ) → f ≡ 2 ^ a → a < s .ports → has (s .batch) a ≡ false → (s .served ≡ Some a → ⊥)
     → Facts (s .ports) (s .batch) (bitOr (s .joined) f) (s .served)
 joined-facts s a f e h out u =
-    subst (λ x. Facts (s .ports) (s .batch) (bitOr (s .joined) x) (s .served)) (sym e) (
-      s .some,
-      (
-        s .few,
-        (
-          s .low,
-          (
-            or-lt (s .ports) (s .joined) (2 ^ a) (s .fresh) (pow-below a (s .ports) h),
-            (
-              λ p i. has-or-other (s .joined) a p (λ q. both-ways (has (s .batch) a) out (ap (has (s .batch)) (sym q) ∙ i)) ∙ s .apart p i,
-              (s .port, (λ p g. ap (λ v. has (s .batch) p || v) (has-or-other (s .joined) a p (λ q. u (g ∙ ap Some q))) ∙ s .gone p g, tt)),
-            ),
-          ),
-        ),
-      ),
-    )
+    subst (λ x. Facts (s .ports) (s .batch) (bitOr (s .joined) x) (s .served)) (sym e)
+    (facts (s .ports) (s .batch) (bitOr (s .joined) (2 ^ a)) (s .served) (s .some) (s .few) (s .low)
+    (or-lt (s .ports) (s .joined) (2 ^ a) (s .fresh) (pow-below a (s .ports) h))
+    (λ p i. has-or-other (s .joined) a p (λ q. both-ways (has (s .batch) a) out (ap (has (s .batch)) (sym q) ∙ i)) ∙ s .apart p i)
+    (s .port)
+    (λ p g. ap (λ v. has (s .batch) p || v) (has-or-other (s .joined) a p (λ q. u (g ∙ ap Some q))) ∙ s .gone p g))
 
 -- what the grant of port c, the lowest of the batch, rests on
 pub record Found (s : Batches) (batch later c : ℕ) : Type 0 where
@@ -120,26 +115,11 @@ granted-facts s batch later c j =
       | inl q ↦ absurd (both-ways (has (bitXor batch (2 ^ c)) p) (ap (has (bitXor batch (2 ^ c))) q ∙ has-xor-same batch c (j .waited)) e)
       | inr n ↦ sym (has-xor-other batch c p n) ∙ e
     ] in
-    subst (λ x. Facts (s .ports) (bitXor batch x) later (Some c)) (sym (j .flag)) (
-      s .some,
-      (
-        s .few,
-        (
-          xor-lt (s .ports) batch (2 ^ c) (o .low) (pow-below c (s .ports) (j .port)),
-          (
-            o .fresh,
-            (
-              λ p e. o .apart p (other p e),
-              (
-                λ p g. (let same : c ≡ p = cc in subst (λ x. x < s .ports) same (j .port)),
-                (
-                  λ p g. (let same : c ≡ p = cc in subst (λ x. inEither (bitXor batch (2 ^ c)) later x ≡ false) same
-                      (or-both-false (has (bitXor batch (2 ^ c)) c) (has later c) (has-xor-same batch c (j .waited)) (o .apart c (j .waited)))),
-                  tt,
-                ),
-              ),
-            ),
-          ),
-        ),
-      ),
-    )
+    subst (λ x. Facts (s .ports) (bitXor batch x) later (Some c)) (sym (j .flag))
+    (facts (s .ports) (bitXor batch (2 ^ c)) later (Some c) (s .some) (s .few)
+    (xor-lt (s .ports) batch (2 ^ c) (o .low) (pow-below c (s .ports) (j .port)))
+    (o .fresh)
+    (λ p e. o .apart p (other p e))
+    (λ p g. (let same : c ≡ p = cc in subst (λ x. x < s .ports) same (j .port)))
+    (λ p g. (let same : c ≡ p = cc in subst (λ x. inEither (bitXor batch (2 ^ c)) later x ≡ false) same
+    (or-both-false (has (bitXor batch (2 ^ c)) c) (has later c) (has-xor-same batch c (j .waited)) (o .apart c (j .waited))))))

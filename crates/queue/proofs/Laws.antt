@@ -15,15 +15,15 @@ use Rattle.bus.proofs.Served.{served-fits}
 use Rattle.queue.specs.declared.Queue.{Queue}
 use Rattle.queue.specs.Lines.{among, ahead}
 use Rattle.queue.specs.Account.{line, queue-meaning, queue-means, QueueJoins, QueueGrants, QueueEnds}
-use Rattle.queue.proofs.Line.{Apart, Ports, apart-in, ports-in, away-in, among-end, among-other, among-below, ahead-le, ahead-end, ahead-absent}
+use Rattle.queue.proofs.Line.{Apart, apart-in, among-end, among-other, ahead-le, ahead-end, ahead-absent}
 
 queue-sound : (s : Queue) → Sound (queue-meaning s)
 queue-sound s = record {
   some = s .some;
   few = s .few;
   limits = λ a b ha hb ne. (omega arith, omega arith);
-  waits = λ p e. among-below (s .ports) (line s) p (ports-in (s .ports) (line s) (s .below)) e;
-  serves = λ p e. away-in (s .ports) (line s) (s .served) (s .gone) p e;
+  waits = s .below;
+  serves = λ p e. (s .port p e, s .gone p e);
   still = λ a b e hb ne. ahead-le a b (line s);
 }
 
@@ -41,7 +41,7 @@ queue-joining s a t j =
       serves = j .served;
       kept = λ x y w. rw e (omega (arith, ahead-end xs a x y w));
       fresh = λ b h ne. served-fits (s .served) b (Phases (ahead a b (line t))) (Phases 1) (ahead-le a b (line t))
-          (λ f. omega (arith, ahead-absent (line t) a b (ap (among b) e ∙ among-other xs a b ne ∙ away-in (s .ports) xs (s .served) (s .gone) b f .1)));
+          (λ f. omega (arith, ahead-absent (line t) a b (ap (among b) e ∙ among-other xs a b ne ∙ s .gone b f)));
     }
 
 ahead-more : (u : Bool) (n : ℕ) → n ≤ 1 → n ≤ cond u 1 n
@@ -53,13 +53,13 @@ queue-granting s c t j =
     let ys : List ℕ = line t in
     let e : line s ≡ c ∷ ys = j .line in
     let apart : (among c ys ≡ false) × Apart ys = subst Apart e (apart-in (line s) (s .once)) in
-    let below : (c < s .ports) × Ports (s .ports) ys = subst (Ports (s .ports)) e (ports-in (s .ports) (line s) (s .below)) in
+    let waited : among c (line s) ≡ true = rw e (rw (eq-eqb c c refl) refl) in
     let other : (a : ℕ) → among a ys ≡ true → c ≡ a → ⊥ = λ a w q. both-ways (among c ys) (apart .0) (ap (λ x. among x ys) q ∙ w) in
     record {
       bus = record { ports = j .ports; limit = λ x y. refl };
-      port = below .0;
+      port = s .below c waited;
       unserved = j .unserved;
-      waited = rw e (rw (eq-eqb c c refl) refl);
+      waited = waited;
       leaves = apart .0;
       others = λ p ne. rw e (rw (ne-eqb c p (λ q. ne (sym q))) refl);
       serves = j .served;

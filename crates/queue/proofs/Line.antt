@@ -5,14 +5,11 @@ use mathlib.Core.List.{List, [], _∷_, _++_}
 use mathlib.Core.Logic.{_⊎_, inl, inr}
 use Prim.Native.Nat.{ℕ, zero, suc, _+_, _-_, _≤_, _<_}
 use native.Mathlib.Omega.{arith}
-use lib.Dec.{eqb, ltb}
+use lib.Dec.{eqb}
 use lib.ListN.{length, take, drop, getD}
 use lib.Seq.{take-append-le}
-use Rattle.std.proofs.shelf.Tests.{cases-eq, both-ways, eq-eqb, ne-eqb, ltb-true, lt-ltb, and-parts, and-from, not-true, not-from-false}
-use Rattle.std.specs.declared.option.Option.{Option}
-use Rattle.std.specs.declared.option.Option.the-variants.{Some, None}
-use Rattle.tasks.specs.Platforms.{allBelow}
-use Rattle.queue.specs.Lines.{among, ahead, apart, away}
+use Rattle.std.proofs.shelf.Tests.{cases-eq, both-ways, eq-eqb, ne-eqb, and-parts, and-from, not-true, not-from-false}
+use Rattle.queue.specs.Lines.{among, ahead, apart}
 
 -- ---- the standing facts as products
 
@@ -32,24 +29,17 @@ pub apart-out : (xs : List ℕ) → Apart xs → apart xs ≡ true
 apart-out [] p = refl
 apart-out (x ∷ xs) p = and-from (not (among x xs)) (apart xs) (not-from-false (among x xs) (p .0)) (apart-out xs (p .1))
 
-pub ports-in : (n : ℕ) (xs : List ℕ) → allBelow n xs ≡ true → Ports n xs
-ports-in n [] e = tt
-ports-in n (x ∷ xs) e = let k = and-parts (ltb x n) (allBelow n xs) e in (ltb-true x n (k .0), ports-in n xs (k .1))
+cond-true-right : (b : Bool) → cond b true true ≡ true
+cond-true-right true = refl
+cond-true-right false = refl
 
-pub ports-out : (n : ℕ) (xs : List ℕ) → Ports n xs → allBelow n xs ≡ true
-ports-out n [] p = refl
-ports-out n (x ∷ xs) p = and-from (ltb x n) (allBelow n xs) (lt-ltb x n (p .0)) (ports-out n xs (p .1))
+-- a longer line has all that it had
+pub among-more : (x p : ℕ) → cond (eqb x p) true true ≡ true
+among-more x p = cond-true-right (eqb x p)
 
-pub away-in : (n : ℕ) (xs : List ℕ) (s : Option ℕ) → away n xs s ≡ true → (p : ℕ) → s ≡ Some p → (p < n) × (among p xs ≡ false)
-away-in n xs None e p f = absurd (let z : _≡_ {A = ℕ} 0 1 = cc in omega arith)
-away-in n xs (Some q) e p f =
-    let k = and-parts (ltb q n) (not (among q xs)) e in
-    let same : q ≡ p = cc in
-    (omega (arith, ltb-true q n (k .0)), ap (λ x. among x xs) (sym same) ∙ not-true (among q xs) (k .1))
-
-pub away-out : (n : ℕ) (xs : List ℕ) (s : Option ℕ) → ((p : ℕ) → s ≡ Some p → (p < n) × (among p xs ≡ false)) → away n xs s ≡ true
-away-out n xs None h = refl
-away-out n xs (Some q) h = let k = h q refl in and-from (ltb q n) (not (among q xs)) (lt-ltb q n (k .0)) (not-from-false (among q xs) (k .1))
+pub ports-in : (n : ℕ) (xs : List ℕ) → ((p : ℕ) → among p xs ≡ true → p < n) → Ports n xs
+ports-in n [] h = tt
+ports-in n (x ∷ xs) h = (h x (rw (eq-eqb x x refl) refl), ports-in n xs (λ p e. h p (rw e (among-more x p))))
 
 -- ---- who stands in a line
 
@@ -57,10 +47,6 @@ pub none-among : (n : ℕ) (xs : List ℕ) (a : ℕ) → ((k : ℕ) → k < n �
 none-among zero xs a h = refl
 none-among (suc n) [] a h = refl
 none-among (suc n) (x ∷ xs) a h = rw (ne-eqb x a (h 0 (omega arith) (omega arith))) (none-among n xs a (λ k l m. h (suc k) (omega arith) (omega arith)))
-
-cond-true-right : (b : Bool) → cond b true true ≡ true
-cond-true-right true = refl
-cond-true-right false = refl
 
 pub one-among : (n : ℕ) (xs : List ℕ) (a k : ℕ) → k < n → k < length xs → getD xs k 0 ≡ a → among a (take n xs) ≡ true
 one-among zero xs a k h l e = absurd (omega arith)
@@ -118,17 +104,6 @@ apart-end (x ∷ xs) a p e = elim (cases-eq x a) [
   | inr n ↦ (among-other xs a x n ∙ p .0, apart-end xs a (p .1) (let r : among a xs ≡ false = rw (ne-eqb x a n) at e in r))
 ]
 
-below-end : (n : ℕ) (xs : List ℕ) (a : ℕ) → Ports n xs → a < n → Ports n (xs ++ (a ∷ []))
-below-end n [] a p h = (h, tt)
-below-end n (x ∷ xs) a p h = (p .0, below-end n xs a (p .1) h)
-
-pub among-below : (n : ℕ) (xs : List ℕ) (a : ℕ) → Ports n xs → among a xs ≡ true → a < n
-among-below n [] a p e = absurd (both-ways false refl e)
-among-below n (x ∷ xs) a p e = elim (cases-eq x a) [
-  | inl q ↦ omega (arith, q, p .0)
-  | inr ne ↦ among-below n xs a (p .1) (let r : among a xs ≡ true = rw (ne-eqb x a ne) at e in r)
-]
-
 -- k taken out of the line
 abbrev without : ℕ → List ℕ → List ℕ
 without k [] = []
@@ -178,17 +153,11 @@ apart-length (suc n) xs a p = omega (arith, without-length n xs, apart-length n 
 
 -- ---- the standing facts after a step
 
-pub below-joined : (n : ℕ) (xs : List ℕ) (a : ℕ) → allBelow n xs ≡ true → a < n → allBelow n (xs ++ (a ∷ [])) ≡ true
-below-joined n xs a e h = ports-out n (xs ++ (a ∷ [])) (below-end n xs a (ports-in n xs e) h)
+pub below-joined : (n : ℕ) (xs : List ℕ) (a : ℕ) → ((p : ℕ) → among p xs ≡ true → p < n) → a < n → (p : ℕ) → among p (xs ++ (a ∷ [])) ≡ true → p < n
+below-joined n xs a h l p e = elim (cases-eq p a) [ inl q ↦ omega (arith, q, l) | inr ne ↦ h p (sym (among-other xs a p ne) ∙ e) ]
 
 pub apart-joined : (xs : List ℕ) (a : ℕ) → apart xs ≡ true → among a xs ≡ false → apart (xs ++ (a ∷ [])) ≡ true
 apart-joined xs a e f = apart-out (xs ++ (a ∷ [])) (apart-end xs a (apart-in xs e) f)
-
-pub away-joined : (n : ℕ) (xs : List ℕ) (a : ℕ) (s : Option ℕ) → away n xs s ≡ true → (s ≡ Some a → ⊥) → away n (xs ++ (a ∷ [])) s ≡ true
-away-joined n xs a s e u = away-out n (xs ++ (a ∷ [])) s (λ p f. let k = away-in n xs s e p f in (k .0, among-other xs a p (λ q. u (f ∙ ap Some q)) ∙ k .1))
-
-pub away-granted : (n : ℕ) (c : ℕ) (ys : List ℕ) → allBelow n (c ∷ ys) ≡ true → apart (c ∷ ys) ≡ true → away n ys (Some c) ≡ true
-away-granted n c ys e f = let k = ports-in n (c ∷ ys) e in let l = apart-in (c ∷ ys) f in and-from (ltb c n) (not (among c ys)) (lt-ltb c n (k .0)) (not-from-false (among c ys) (l .0))
 
 -- the line without its first
 pub front : (n : ℕ) (xs : List ℕ) → 0 < n → n ≤ length xs → take n xs ≡ getD xs 0 0 ∷ take (n - 1) (drop 1 xs ++ take 1 xs)

@@ -6,13 +6,13 @@ use Prim.Native.Nat.{ℕ, _+_, _-_, _≤_, _<_}
 use native.Mathlib.Omega.{arith}
 use lib.ListN.{length, take, drop, getD, set, length-append, length-take}
 use Rattle.std.proofs.shelf.Lists.{take-more-set}
+use Rattle.std.proofs.shelf.Tests.{eq-eqb}
 use Rattle.queue.specs.declared.Queue.{Queue}
 use Rattle.std.specs.declared.option.Option.{Option}
 use Rattle.std.specs.declared.option.Option.the-variants.{Some, None}
-use Rattle.queue.specs.Lines.{among, apart, away}
+use Rattle.queue.specs.Lines.{among, apart}
 use Rattle.queue.specs.Account.{line}
-use Rattle.tasks.specs.Platforms.{allBelow}
-use Rattle.queue.proofs.Line.{apart-in, apart-out, ports-in, ports-out, apart-length, one-among, front, below-joined, apart-joined, away-joined, away-granted}
+use Rattle.queue.proofs.Line.{Apart, apart-in, apart-out, ports-in, apart-length, one-among, front, among-other, among-more, below-joined, apart-joined}
 
 pub fits : (s : Queue) → s .len ≤ length (s .order)
 fits s = omega (arith, s .size, length-take (s .len) (s .order))
@@ -34,27 +34,24 @@ granted-line s after n e = front (s .len) (s .order) (omega (arith, n)) (fits s)
 abbrev Facts : ℕ → ℕ → List ℕ → Option ℕ → Type 0
 Facts ports len order served =
     (1 ≤ ports) × ((ports ≤ 16) × ((length (take len order) ≡ len)
-    × ((allBelow ports (take len order) ≡ true) × ((apart (take len order) ≡ true) × ((away ports (take len order) served ≡ true) × Unit {0})))))
+    × (((p : ℕ) → among p (take len order) ≡ true → p < ports) × ((apart (take len order) ≡ true)
+    × (((p : ℕ) → served ≡ Some p → p < ports) × (((p : ℕ) → served ≡ Some p → among p (take len order) ≡ false) × Unit {0}))))))
+
+facts : (ports len : ℕ) (order : List ℕ) (served : Option ℕ) → 1 ≤ ports → ports ≤ 16 → length (take len order) ≡ len
+    → ((p : ℕ) → among p (take len order) ≡ true → p < ports) → apart (take len order) ≡ true
+    → ((p : ℕ) → served ≡ Some p → p < ports) → ((p : ℕ) → served ≡ Some p → among p (take len order) ≡ false) → Facts ports len order served
+facts ports len order served some few size below once port gone = (some, (few, (size, (below, (once, (port, (gone, tt)))))))
 
 pub joined-facts : (s : Queue) (a end : ℕ) → end ≡ s .len → end < length (s .order) → a < s .ports → among a (line s) ≡ false → (s .served ≡ Some a → ⊥)
     → Facts (s .ports) (s .len + 1) (set (s .order) end a) (s .served)
 joined-facts s a end e l h f u =
-    let is : take (s .len + 1) (set (s .order) end a) ≡ line s ++ (a ∷ []) = joined-line s a end e l in (
-      s .some,
-      (
-        s .few,
-        (
-          ap length is ∙ length-append (line s) (a ∷ []) ∙ (let k : length (line s) + 1 ≡ s .len + 1 = omega (arith, s .size) in k),
-          (
-            ap (allBelow (s .ports)) is ∙ below-joined (s .ports) (line s) a (s .below) h,
-            (
-              ap apart is ∙ apart-joined (line s) a (s .once) f,
-              (ap (λ xs. away (s .ports) xs (s .served)) is ∙ away-joined (s .ports) (line s) a (s .served) (s .gone) u, tt),
-            ),
-          ),
-        ),
-      ),
-    )
+    let is : take (s .len + 1) (set (s .order) end a) ≡ line s ++ (a ∷ []) = joined-line s a end e l in
+    facts (s .ports) (s .len + 1) (set (s .order) end a) (s .served) (s .some) (s .few)
+    (ap length is ∙ length-append (line s) (a ∷ []) ∙ (let k : length (line s) + 1 ≡ s .len + 1 = omega (arith, s .size) in k))
+    (λ p w. below-joined (s .ports) (line s) a (s .below) h p (ap (among p) (sym is) ∙ w))
+    (ap apart is ∙ apart-joined (line s) a (s .once) f)
+    (s .port)
+    (λ p g. ap (among p) is ∙ among-other (line s) a p (λ q. u (g ∙ ap Some q)) ∙ s .gone p g)
 
 pub granted-facts : (s : Queue) (after : List ℕ) → (s .len ≡ 0 → ⊥) → after ≡ drop 1 (s .order) ++ take 1 (s .order)
     → Facts (s .ports) (s .len - 1) after (Some (getD (s .order) 0 0))
@@ -62,7 +59,12 @@ granted-facts s after n e =
     let c : ℕ = getD (s .order) 0 0 in
     let ys : List ℕ = take (s .len - 1) after in
     let is : line s ≡ c ∷ ys = granted-line s after n e in
-    let below : allBelow (s .ports) (c ∷ ys) ≡ true = ap (allBelow (s .ports)) (sym is) ∙ s .below in
-    let once : apart (c ∷ ys) ≡ true = ap apart (sym is) ∙ s .once in
+    let first : among c (line s) ≡ true = ap (among c) is ∙ rw (eq-eqb c c refl) refl in
+    let rest : (p : ℕ) → among p ys ≡ true → among p (line s) ≡ true = λ p w. ap (among p) is ∙ rw w (among-more c p) in
+    let once : Apart (c ∷ ys) = apart-in (c ∷ ys) (ap apart (sym is) ∙ s .once) in
     let size : length (c ∷ ys) ≡ s .len = ap length (sym is) ∙ s .size in
-    (s .some, (s .few, (omega (arith, size), (ports-out (s .ports) ys (ports-in (s .ports) (c ∷ ys) below .1), (apart-out ys (apart-in (c ∷ ys) once .1), (away-granted (s .ports) c ys below once, tt))))))
+    facts (s .ports) (s .len - 1) after (Some c) (s .some) (s .few) (omega (arith, size))
+    (λ p w. s .below p (rest p w))
+    (apart-out ys (once .1))
+    (λ p g. (let same : c ≡ p = cc in subst (λ x. x < s .ports) same (s .below c first)))
+    (λ p g. (let same : c ≡ p = cc in ap (λ x. among x ys) (sym same) ∙ once .0))

@@ -2,9 +2,7 @@
 use mathlib.Core.Bool.{Bool, true, false, cond, not, _&&_}
 use mathlib.Core.List.{List, [], _∷_}
 use Prim.Native.Nat.{ℕ}
-use lib.Dec.{eqb, ltb}
-use Rattle.std.specs.declared.option.Option.{Option}
-use Rattle.std.specs.declared.option.Option.the-variants.{Some, None}
+use lib.Dec.{eqb}
 
 -- port p stands in the line
 abbrev pub among : ℕ → List ℕ → Bool
@@ -20,8 +18,3 @@ ahead a b (x ∷ xs) = cond (eqb x a) 0 (cond (eqb x b) 1 (ahead a b xs))
 abbrev pub apart : List ℕ → Bool
 apart [] = true
 apart (x ∷ xs) = not (among x xs) && apart xs
-
--- the one in service, if any, is a port that does not stand in the line
-abbrev pub away : ℕ → List ℕ → Option ℕ → Bool
-away n xs None = true
-away n xs (Some p) = ltb p n && not (among p xs)

@@ -1,10 +1,10 @@
 // The queue: grants the port that joined first.
 ghost use mathlib.Core.Path.{_≡_};
-ghost use Prim.Native.Nat.{_≤_};
+ghost use Prim.Native.Nat.{ℕ, _≤_, _<_};
 ghost use lib.ListN.{length, take};
-ghost use mathlib.Core.Bool.{true};
-ghost use Rattle.tasks.specs.Platforms.{allBelow};
-ghost use Rattle.queue.specs.Lines.{apart, away};
+ghost use mathlib.Core.Bool.{true, false};
+ghost use Rattle.std.specs.declared.option.Option.the-variants.{Some};
+ghost use Rattle.queue.specs.Lines.{among, apart};
 
 pub mod calls;
 
@@ -21,8 +21,9 @@ pub struct Queue {
     ghost few: { ports ≤ 16 },
     ghost size: { length (take len order) ≡ len },
     // each that waits is a port, and waits once
-    ghost below: { allBelow ports (take len order) ≡ true },
+    ghost below: { (p : ℕ) → among p (take len order) ≡ true → p < ports },
     ghost once: { apart (take len order) ≡ true },
     // the one in service is a port that does not wait
-    ghost gone: { away ports (take len order) served ≡ true },
+    ghost port: { (p : ℕ) → served ≡ Some p → p < ports },
+    ghost gone: { (p : ℕ) → served ≡ Some p → among p (take len order) ≡ false },
 }

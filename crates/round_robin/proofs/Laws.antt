@@ -16,7 +16,7 @@ use Rattle.bus.proofs.Masks.{has-below, has-or-same, has-or-other, has-xor-same
 use Rattle.round_robin.specs.declared.RoundRobin.{RoundRobin}
 use Rattle.round_robin.specs.Rings.{place}
 use Rattle.round_robin.specs.Account.{round-meaning, round-means, RoundJoins, RoundGrants, RoundEnds}
-use Rattle.round_robin.proofs.Ring.{granted-in, turns, turns-le, turns-served, turns-falls, turns-kept}
+use Rattle.round_robin.proofs.Ring.{turns, turns-le, turns-served, turns-falls, turns-kept}
 
 round-sound : (s : RoundRobin) → Sound (round-meaning s)
 round-sound s = record {
@@ -24,7 +24,7 @@ round-sound s = record {
   few = s .few;
   limits = λ a b ha hb ne. (omega arith, omega arith);
   waits = λ p e. has-below (s .mask) p (s .ports) (s .low) e;
-  serves = λ p e. let k = granted-in (s .mask) (s .next) (s .served) (s .gone) p e in (omega (arith, k .0, s .near), k .1);
+  serves = λ p e. (omega (arith, s .last p e, s .near), s .gone p e);
   still = λ a b e hb ne. turns-le (s .next) a b;
 }
 
@@ -39,7 +39,7 @@ round-joining s a t j = record {
   serves = j .served;
   kept = λ x y e. rw (j .next) (omega arith);
   fresh = λ b h ne. served-fits (s .served) b (Phases (turns (t .next) a b)) (Phases 1) (turns-le (t .next) a b)
-      (λ e. rw (j .next ∙ granted-in (s .mask) (s .next) (s .served) (s .gone) b e .0) (turns-served a b (omega (arith, s .few, j .port)) ne));
+      (λ e. rw (j .next ∙ s .last b e) (turns-served a b (omega (arith, s .few, j .port)) ne));
 }
 
 round-granting : (s : RoundRobin) (c : ℕ) (t : RoundRobin) → RoundGrants s c t → Granted (round-meaning s) c (round-meaning t)

@@ -1,34 +1,16 @@
 -- Lemmas on places in the ring, and that the first set digit of the rotated mask is the first port in the count. Assumes nothing.
 use mathlib.Core.Path.{_≡_, refl, sym, ap, subst, _∙_}
-use mathlib.Core.Bool.{Bool, true, false, cond, not, _&&_}
+use mathlib.Core.Bool.{true, cond}
 use mathlib.Core.Logic.{_⊎_, inl, inr}
 use Prim.Native.Nat.{ℕ, _+_, _-_, _%_, _^_, _≤_, _<_}
 use native.Mathlib.Omega.{arith}
 use lib.Count.{trailingZeros}
-use lib.Dec.{eqb, ltb}
-use Rattle.std.proofs.shelf.Tests.{cases-eq, cases-lt, both-ways, eq-eqb, eqb-true, cond-true, cond-false, lt-ltb, le-ltb, and-parts, and-from, not-true, not-from-false}
+use lib.Dec.{ltb}
+use Rattle.std.proofs.shelf.Tests.{cases-eq, cases-lt, cond-true, cond-false, lt-ltb, le-ltb}
 use Rattle.std.proofs.shelf.Ways.{tells}
-use Rattle.std.specs.declared.option.Option.{Option}
-use Rattle.std.specs.declared.option.Option.the-variants.{Some, None}
 use Rattle.bus.specs.Masks.{digit, has}
-use Rattle.bus.proofs.Served.{not-both}
 use Rattle.bus.proofs.Masks.{has-one, one-has, has-zero, has-below, has-none, has-some, trailing-digit, trailing-below, trailing-lt, rotated, digit-rotated, rotated-lt}
-use Rattle.round_robin.specs.Rings.{place, lastGranted}
-
--- ---- the port in service
-
-pub granted-in : (mask next : ℕ) (s : Option ℕ) → lastGranted mask next s ≡ true → (p : ℕ) → s ≡ Some p → (next ≡ p + 1) × (has mask p ≡ false)
-granted-in mask next None e p f = absurd (not-both None p refl f)
-granted-in mask next (Some q) e p f =
-    let k = and-parts (eqb next (q + 1)) (not (has mask q)) e in
-    let same : q ≡ p = cc in
-    (eqb-true next (q + 1) (k .0) ∙ ap (λ x. x + 1) same, ap (has mask) (sym same) ∙ not-true (has mask q) (k .1))
-
-pub granted-out : (mask next : ℕ) (s : Option ℕ) → ((p : ℕ) → s ≡ Some p → (next ≡ p + 1) × (has mask p ≡ false)) → lastGranted mask next s ≡ true
-granted-out mask next None h = refl
-granted-out mask next (Some q) h = let k = h q refl in and-from (eqb next (q + 1)) (not (has mask q)) (eq-eqb next (q + 1) (k .0)) (not-from-false (has mask q) (k .1))
-
--- ---- places
+use Rattle.round_robin.specs.Rings.{place}
 
 -- 1 if the count from s comes to b before a, else 0
 abbrev pub turns : ℕ → ℕ → ℕ → ℕ

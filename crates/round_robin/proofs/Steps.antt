@@ -12,9 +12,9 @@ use Rattle.bus.specs.Masks.{has}
 use Rattle.bus.specs.Turns.{Wanted}
 use Rattle.bus.proofs.Masks.{pow-le, has-below, has-or-other, has-some, has-xor-same, rotated}
 use Rattle.round_robin.specs.declared.RoundRobin.{RoundRobin}
-use Rattle.round_robin.specs.Rings.{place, lastGranted}
+use Rattle.round_robin.specs.Rings.{place}
 use Rattle.round_robin.specs.Account.{round-meaning}
-use Rattle.round_robin.proofs.Ring.{granted-in, granted-out, chosen, chosen-waits, chosen-first}
+use Rattle.round_robin.proofs.Ring.{chosen, chosen-waits, chosen-first}
 
 pub low-16 : (s : RoundRobin) → s .mask < 2 ^ 16
 low-16 s = omega (arith, s .low, pow-le (s .ports) 16 (s .few))
@@ -28,28 +28,20 @@ flag s a h = one-shl a 16 (omega (arith, s .few))
 
 -- the standing facts of a round robin's fields
 abbrev Facts : ℕ → ℕ → ℕ → Option ℕ → Type 0
-Facts ports mask next served = (1 ≤ ports) × ((ports ≤ 16) × ((mask < 2 ^ ports) × ((next ≤ ports) × ((lastGranted mask next served ≡ true) × Unit {0}))))
+Facts ports mask next served =
+    (1 ≤ ports) × ((ports ≤ 16) × ((mask < 2 ^ ports) × ((next ≤ ports)
+    × (((p : ℕ) → served ≡ Some p → next ≡ p + 1) × (((p : ℕ) → served ≡ Some p → has mask p ≡ false) × Unit {0})))))
+
+facts : (ports mask next : ℕ) (served : Option ℕ) → 1 ≤ ports → ports ≤ 16 → mask < 2 ^ ports → next ≤ ports
+    → ((p : ℕ) → served ≡ Some p → next ≡ p + 1) → ((p : ℕ) → served ≡ Some p → has mask p ≡ false) → Facts ports mask next served
+facts ports mask next served some few low near last gone = (some, (few, (low, (near, (last, (gone, tt))))))
 
 pub joined-facts : (s : RoundRobin) (a f : ℕ) → f ≡ 2 ^ a → a < s .ports → (s .served ≡ Some a → ⊥) → Facts (s .ports) (bitOr (s .mask) f) (s .next) (s .served)
 joined-facts s a f e h u =
-    subst (λ x. Facts (s .ports) (bitOr (s .mask) x) (s .next) (s .served)) (sym e) (
-      s .some,
-      (
-        s .few,
-        (
-          or-lt (s .ports) (s .mask) (2 ^ a) (s .low) (pow-below a (s .ports) h),
-          (
-            s .near,
-            (
-              granted-out (bitOr (s .mask) (2 ^ a)) (s .next) (s .served) (λ p g.
-                  let k = granted-in (s .mask) (s .next) (s .served) (s .gone) p g in
-                  (k .0, has-or-other (s .mask) a p (λ q. u (g ∙ ap Some q)) ∙ k .1)),
-              tt,
-            ),
-          ),
-        ),
-      ),
-    )
+    subst (λ x. Facts (s .ports) (bitOr (s .mask) x) (s .next) (s .served)) (sym e)
+    (facts (s .ports) (bitOr (s .mask) (2 ^ a)) (s .next) (s .served) (s .some) (s .few)
+    (or-lt (s .ports) (s .mask) (2 ^ a) (s .low) (pow-below a (s .ports) h)) (s .near) (s .last)
+    (λ p g. has-or-other (s .mask) a p (λ q. u (g ∙ ap Some q)) ∙ s .gone p g))
 
 -- what the grant of port c, found in the rotated mask, rests on
 pub record Found (s : RoundRobin) (c : ℕ) : Type 0 where
@@ -75,21 +67,8 @@ found s start r n e f =
 
 pub granted-facts : (s : RoundRobin) (c : ℕ) → Found s c → Facts (s .ports) (bitXor (s .mask) ((1 * 2 ^ c) % 65536)) (c + 1) (Some c)
 granted-facts s c j =
-    subst (λ x. Facts (s .ports) (bitXor (s .mask) x) (c + 1) (Some c)) (sym (j .flag)) (
-      s .some,
-      (
-        s .few,
-        (
-          xor-lt (s .ports) (s .mask) (2 ^ c) (s .low) (pow-below c (s .ports) (j .port)),
-          (
-            omega (arith, j .port),
-            (
-              granted-out (bitXor (s .mask) (2 ^ c)) (c + 1) (Some c) (λ p g.
-                  let same : c ≡ p = cc in
-                  (ap (λ x. x + 1) same, ap (has (bitXor (s .mask) (2 ^ c))) (sym same) ∙ has-xor-same (s .mask) c (j .waited))),
-              tt,
-            ),
-          ),
-        ),
-      ),
-    )
+    subst (λ x. Facts (s .ports) (bitXor (s .mask) x) (c + 1) (Some c)) (sym (j .flag))
+    (facts (s .ports) (bitXor (s .mask) (2 ^ c)) (c + 1) (Some c) (s .some) (s .few)
+    (xor-lt (s .ports) (s .mask) (2 ^ c) (s .low) (pow-below c (s .ports) (j .port))) (omega (arith, j .port))
+    (λ p g. (let same : c ≡ p = cc in ap (λ x. x + 1) same))
+    (λ p g. (let same : c ≡ p = cc in ap (has (bitXor (s .mask) (2 ^ c))) (sym same) ∙ has-xor-same (s .mask) c (j .waited))))

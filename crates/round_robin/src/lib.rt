@@ -1,8 +1,9 @@
 // Round robin: grants the first waiting port, counted upward from the one after the last granted.
 ghost use mathlib.Core.Path.{_≡_};
-ghost use mathlib.Core.Bool.{true};
-ghost use Prim.Native.Nat.{_^_, _≤_, _<_};
-ghost use Rattle.round_robin.specs.Rings.{lastGranted};
+ghost use mathlib.Core.Bool.{false};
+ghost use Prim.Native.Nat.{ℕ, _+_, _^_, _≤_, _<_};
+ghost use Rattle.std.specs.declared.option.Option.the-variants.{Some};
+ghost use Rattle.bus.specs.Masks.{has};
 
 pub mod calls;
 pub mod example;
@@ -20,5 +21,7 @@ pub struct RoundRobin {
     ghost few: { ports ≤ 16 },
     ghost low: { mask < 2 ^ ports },
     ghost near: { next ≤ ports },
-    ghost gone: { lastGranted mask next served ≡ true },
+    // the one in service was granted last, and does not wait
+    ghost last: { (p : ℕ) → served ≡ Some p → next ≡ p + 1 },
+    ghost gone: { (p : ℕ) → served ≡ Some p → has mask p ≡ false },
 }
