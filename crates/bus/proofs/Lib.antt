@@ -1,0 +1,5 @@
+pub mod AtMost
+pub mod Served
+pub mod Courses
+pub mod Masks
+pub mod Refused

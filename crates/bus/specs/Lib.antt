@@ -1,0 +1,4 @@
+pub mod Turns
+pub mod Means
+pub mod Courses
+pub mod Masks

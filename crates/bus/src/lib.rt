@@ -1,0 +1,4 @@
+// Arbiters: who has the bus next.
+pub mod arbiter;
+pub mod fairness;
+pub mod service;

@@ -1,0 +1,2 @@
+pub mod Turnover
+pub mod Account

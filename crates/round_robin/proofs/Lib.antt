@@ -1,0 +1,4 @@
+pub mod Ring
+pub mod Laws
+pub mod Steps
+pub mod TwoThenZero
