@@ -16,7 +16,7 @@ use Rattle.tasks.specs.Refusals.{Told}
 use Rattle.argument.specs.Sums.{any}
 use Rattle.argument.specs.Plans.{Plan, SoundPlan}
 use Rattle.argument.specs.Demand.{demand, WindowFor}
-use Rattle.argument.specs.Logs.{Job, Log, Turn, A, R, joined, granted, ended, rowOf, coreOf, met, Possible, PossibleMoments, Spaced, OneAtATime, OnCore, NoIdling, Before, RightChoice, Carried, NeverFree, LimitsKept, Law, possible-moments, spacing, one-at-a-time, no-idling, right-choice, never-free, limits-kept, Keeps, KeepsTheLaws, KeepsAllBut}
+use Rattle.argument.specs.Logs.{Job, Log, Turn, A, R, joined, granted, ended, rowOf, coreOf, met, Possible, OnCore, Before, Carried, NeverFree, LimitsKept, Law, possible-moments, spacing, one-at-a-time, no-idling, right-choice, never-free, limits-kept, Keeps, KeepsTheLaws, KeepsAllBut}
 use Rattle.argument.specs.Theorems.{AllCovered}
 use Rattle.argument.proofs.Sums.{last}
 use Rattle.argument.proofs.Exchange.{any-true}

@@ -15,3 +15,4 @@ mod Instance
 mod Laws
 mod Checks
 mod Sample
+mod Needed

@@ -1,5 +1,5 @@
 -- The box with three tasks: its log by computing, its windows by the search.
-use mathlib.Core.Path.{_≡_, refl}
+use mathlib.Core.Path.{refl}
 use Rattle.tasks.specs.declared.limit.Limit.the-variants.{Phases}
 use Rattle.argument.specs.Samples.{box, one-each, favours-0, first-jobs, lone, The-box-and-its-log-keep-the-laws, The-box-under-the-queue, The-box-with-port-0-favoured, The-box-with-a-nearer-deadline, The-box-with-a-late-task, Three-of-four-phases, A-lone-task-needs-its-own-ticks}
 use Rattle.argument.proofs.Checks.{sound-plan, keeps-the-laws}

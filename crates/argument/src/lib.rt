@@ -1,5 +1,6 @@
 // Why a window is right. No program here: each function carries one theorem on its contract.
-ghost use Rattle.argument.specs.Theorems.{Every-job-ends-within-its-window, One-job-at-a-time-is-not-needed, Every-job-ends-within-its-window-in-general, The-share-is-the-greatest-total-of-any-choice, Longest-first-reaches-the-share, Demand-never-falls, A-jump-passes-no-covering-number, The-search-misses-no-covering-number, The-outcome-is-fixed};
+ghost use Rattle.argument.specs.Theorems.{Every-job-ends-within-its-window, One-job-at-a-time-is-not-needed, A-window-alone-is-not-enough, A-window-can-be-reached, Every-job-ends-within-its-window-in-general, The-share-is-the-greatest-total-of-any-choice, Longest-first-reaches-the-share, Demand-never-falls, A-jump-passes-no-covering-number, The-search-misses-no-covering-number, The-outcome-is-fixed, Needed};
+ghost use Rattle.argument.specs.Logs.{possible-moments, spacing, no-idling, right-choice, never-free, limits-kept};
 ghost use Rattle.argument.specs.Samples.{The-box-and-its-log-keep-the-laws, The-box-under-the-queue, The-box-with-port-0-favoured, The-box-with-a-nearer-deadline, The-box-with-a-late-task, Three-of-four-phases, A-lone-task-needs-its-own-ticks};
 
 // In every log that keeps the laws, every job ends within its task's window.
@@ -11,6 +12,54 @@ pub fn every_job_ends_within_its_window()
 // The same, where jobs of one core may overlap.
 pub fn one_job_at_a_time_is_not_needed()
     ensures { λ _. ⌜ One-job-at-a-time-is-not-needed ⌝ }
+{
+}
+
+// The bound needs that no phase is longer than its task's.
+pub fn the_bound_needs_possible_moments()
+    ensures { λ _. ⌜ Needed possible-moments ⌝ }
+{
+}
+
+// The bound needs that jobs of one task are released apart.
+pub fn the_bound_needs_spacing()
+    ensures { λ _. ⌜ Needed spacing ⌝ }
+{
+}
+
+// The bound needs that a core with a ready job does not idle.
+pub fn the_bound_needs_no_idling()
+    ensures { λ _. ⌜ Needed no-idling ⌝ }
+{
+}
+
+// The bound needs that the right job is started.
+pub fn the_bound_needs_the_right_choice()
+    ensures { λ _. ⌜ Needed right-choice ⌝ }
+{
+}
+
+// The bound needs that the bus is never free while one waits.
+pub fn the_bound_needs_a_bus_never_free()
+    ensures { λ _. ⌜ Needed never-free ⌝ }
+{
+}
+
+// The bound needs that the limits are kept.
+pub fn the_bound_needs_the_limits_kept()
+    ensures { λ _. ⌜ Needed limits-kept ⌝ }
+{
+}
+
+// A covering number is no window while a task of another core is late.
+pub fn a_window_alone_is_not_enough()
+    ensures { λ _. ⌜ A-window-alone-is-not-enough ⌝ }
+{
+}
+
+// Some job ends in the very last tick of its task's window.
+pub fn a_window_can_be_reached()
+    ensures { λ _. ⌜ A-window-can-be-reached ⌝ }
 {
 }
 
