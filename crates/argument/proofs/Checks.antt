@@ -20,7 +20,7 @@ use Rattle.argument.specs.Logs.{Job, Log, Turn, A, R, joined, granted, ended, 
 use Rattle.argument.specs.Theorems.{AllCovered}
 use Rattle.argument.proofs.Sums.{last}
 use Rattle.argument.proofs.Exchange.{any-true}
-use Rattle.argument.proofs.Laws.{number, same-number}
+use Rattle.argument.proofs.Numbered.{number, same-number}
 
 -- every number below n passes
 abbrev all : ℕ → (ℕ → Bool) → Bool

@@ -16,7 +16,7 @@ use Rattle.argument.specs.Sums.{on, greatest, ceil}
 use Rattle.tasks.specs.declared.outcome.Outcome.the-variants.{Window, Late}
 use Rattle.argument.specs.Plans.{Plan, level}
 use Rattle.argument.specs.Greedy.{searched}
-use Rattle.argument.specs.Theorems.{Demand-never-falls, A-jump-passes-no-covering-number, The-search-misses-no-covering-number, The-outcome-is-fixed}
+use Rattle.argument.specs.Theorems.{Demand-never-falls, A-jump-passes-no-covering-number, Jumping-ends-at-the-outcome, The-outcome-is-fixed}
 use Rattle.argument.specs.Demand.{shares, NoneBelow, Settles, jobs, own, turns, offered, longer, share, demand}
 use Rattle.argument.proofs.Sums.{sum-le}
 use Rattle.argument.proofs.Exchange.{on-mono}
@@ -90,8 +90,8 @@ from plan limits place (suc jumps) w some enough none =
     D : ℕ
     D = plan .row place .deadline
 
-pub search-settles : The-search-misses-no-covering-number
-search-settles plan limits place = from plan limits place (plan .row place .deadline) 1 (omega arith) (omega arith) (λ v a b. absurd (nothing v a b))
+pub jumping-settles : Jumping-ends-at-the-outcome
+jumping-settles plan limits place = from plan limits place (plan .row place .deadline) 1 (omega arith) (omega arith) (λ v a b. absurd (nothing v a b))
   where
     nothing : (v : ℕ) → 1 ≤ v → v < 1 → ⊥
     nothing v a b = omega arith

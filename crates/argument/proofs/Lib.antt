@@ -12,7 +12,7 @@ mod OwnTicks
 mod OtherCores
 mod Bound
 mod Instance
-mod Laws
+mod Numbered
 mod Checks
 mod Sample
-mod Needed
+mod Witnesses

@@ -102,8 +102,8 @@ A-jump-passes-no-covering-number = (plan : Plan) (limits : ℕ → ℕ → Limit
     → w ≤ v → demand plan limits place v ≤ v → demand plan limits place w ≤ v
 
 -- the search from 1 ends with the outcome of the task, after at most D jumps
-abbrev pub The-search-misses-no-covering-number : Type 0
-The-search-misses-no-covering-number = (plan : Plan) (limits : ℕ → ℕ → Limit) (place : ℕ)
+abbrev pub Jumping-ends-at-the-outcome : Type 0
+Jumping-ends-at-the-outcome = (plan : Plan) (limits : ℕ → ℕ → Limit) (place : ℕ)
     → Settles plan limits place (searched plan limits place (plan .row place .deadline) 1)
 
 -- a task has one outcome only

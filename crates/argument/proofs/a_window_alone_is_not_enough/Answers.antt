@@ -1,5 +1,0 @@
-use Rattle.argument.proofs.Needed.{late-neighbour}
-use Rattle.argument.proofs.a_window_alone_is_not_enough.Needs as need
-
-pub returns : need.returns
-returns c = late-neighbour
