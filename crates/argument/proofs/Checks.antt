@@ -98,13 +98,15 @@ idles-not-is plan log k e t a b =
     let f = all-true (log .job k .start) (λ t. ltb t (log .job k .release) || any (log .size) (on-core plan log k t)) e t b in
     let g = any-true (log .size) (on-core plan log k t) (unless (ltb t (log .job k .release)) (any (log .size) (on-core plan log k t)) f (early a)) in
     let p = and-parts (eqb (coreOf plan (log .job (g .0))) (coreOf plan (log .job k))) (leb (log .job (g .0) .start) t && ltb t (log .job (g .0) .end)) (g .2) in
-    let q = and-parts (leb (log .job (g .0) .start) t) (ltb t (log .job (g .0) .end)) (p .1) in
-    (g .0, record {
-      known = g .1;
-      same = eqb-true (coreOf plan (log .job (g .0))) (coreOf plan (log .job k)) (p .0);
-      from = leb-true (log .job (g .0) .start) t (q .0);
-      to = ltb-true t (log .job (g .0) .end) (q .1);
-    })
+    let q = and-parts (leb (log .job (g .0) .start) t) (ltb t (log .job (g .0) .end)) (p .1) in (
+      g .0,
+      record {
+        known = g .1;
+        same = eqb-true (coreOf plan (log .job (g .0))) (coreOf plan (log .job k)) (p .0);
+        from = leb-true (log .job (g .0) .start) t (q .0);
+        to = ltb-true t (log .job (g .0) .end) (q .1);
+      },
+    )
   where
     early : log .job k .release ≤ t → ltb t (log .job k .release) ≡ true → ⊥
     early a h = omega (arith, ltb-true t (log .job k .release) h)

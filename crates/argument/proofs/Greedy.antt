@@ -94,11 +94,11 @@ layers-more plan core w limit extra =
     none l = sum-zero (plan .size)
         (λ u. on (ltb (M + l) (plan .row u .a)) (offered core w (plan .row u)) + on (ltb (M + l) (plan .row u .r)) (offered core w (plan .row u)))
         (λ u k. let top = greatest-point (plan .size) (λ u. max (plan .row u .a) (plan .row u .r)) u k in
-          omega (
-            arith,
-            on-false (ltb (M + l) (plan .row u .a)) (offered core w (plan .row u)) (le-ltb (M + l) (plan .row u .a) (omega (arith, top))),
-            on-false (ltb (M + l) (plan .row u .r)) (offered core w (plan .row u)) (le-ltb (M + l) (plan .row u .r) (omega (arith, top))),
-          ))
+        omega (
+          arith,
+          on-false (ltb (M + l) (plan .row u .a)) (offered core w (plan .row u)) (le-ltb (M + l) (plan .row u .a) (omega (arith, top))),
+          on-false (ltb (M + l) (plan .row u .r)) (offered core w (plan .row u)) (le-ltb (M + l) (plan .row u .r) (omega (arith, top))),
+        ))
 
 longest : List (ℕ × ℕ) → ℕ
 longest [] = 0

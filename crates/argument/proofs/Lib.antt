@@ -1,18 +1,20 @@
-mod Sums
-mod Counts
+-- what other crates may cite: sums and counts, the theorems, and the tests of a written-out plan and log
+pub mod Sums
+pub mod Counts
+pub mod Exchange
+pub mod Reach
+pub mod Greedy
+pub mod Least
+pub mod Instance
+pub mod Checks
+-- the way there
 mod Searches
-mod Exchange
 mod Shares
-mod Reach
-mod Greedy
-mod Least
 mod BusyWindow
 mod Cover
 mod OwnTicks
 mod OtherCores
 mod Bound
-mod Instance
 mod Numbered
-mod Checks
 mod Sample
 mod Witnesses
