@@ -61,8 +61,12 @@ horizon-is plan log i t =
           | inr no′ ↦ absurd (nothing (sym (found .2) ∙ on-false (under-way plan log i t (found .0)) (log .job (found .0) .end) no′) some)
           | inl yes′ ↦
               let p = under-way-parts plan log i t (found .0) yes′ in
-              inr (found .0, record { known = found .1; same = p .0; low = p .1 }, p .2,
-              omega (arith, found .2, on-true (under-way plan log i t (found .0)) (log .job (found .0) .end) yes′))
+              inr (
+                found .0,
+                record { known = found .1; same = p .0; low = p .1 },
+                p .2,
+                omega (arith, found .2, on-true (under-way plan log i t (found .0)) (log .job (found .0) .end) yes′),
+              )
         ]
       ]
     ]
@@ -178,9 +182,12 @@ module _ (plan : Plan) (group : ℕ → ℕ → Bool) (limits : ℕ → ℕ → 
       elim (cases-lt (log .job j .start) (log .job J .ready)) [
         | inr r ↦ (J, J-level, started J J-level r, f)
         | inl b ↦
-            let x = B .left (suc (log .job j .start)) (omega arith) (omega arith) in
-            (x .0, x .1 .at-level, started (x .0) (x .1 .at-level) (omega (arith, x .1 .before)),
-            omega (arith, x .1 .after, in-horizon plan log i (suc (log .job j .start)) j v (omega arith)))
+            let x = B .left (suc (log .job j .start)) (omega arith) (omega arith) in (
+              x .0,
+              x .1 .at-level,
+              started (x .0) (x .1 .at-level) (omega (arith, x .1 .before)),
+              omega (arith, x .1 .after, in-horizon plan log i (suc (log .job j .start)) j v (omega arith)),
+            )
       ]
     where
       -- who is ready when a lower job starts has started

@@ -16,11 +16,11 @@ use Rattle.tasks.specs.Refusals.{Told}
 use Rattle.argument.specs.Sums.{any}
 use Rattle.argument.specs.Plans.{Plan, SoundPlan}
 use Rattle.argument.specs.Demand.{demand, WindowFor}
-use Rattle.argument.specs.Logs.{Job, Log, Turn, A, R, joined, granted, ended, rowOf, coreOf, met, Possible, PossibleMoments, Spaced, OneAtATime, OnCore, NoIdling, Before, RightChoice, Carried, NeverFree, LimitsKept, Law, possible-moments, spacing, one-at-a-time, no-idling, right-choice, never-free, limits-kept, Keeps, KeepsTheLaws, KeepsAllBut}
+use Rattle.argument.specs.Logs.{Job, Log, Turn, A, R, joined, granted, ended, rowOf, coreOf, met, Possible, OnCore, Before, Carried, NeverFree, LimitsKept, Law, possible-moments, spacing, one-at-a-time, no-idling, right-choice, never-free, limits-kept, Keeps, KeepsTheLaws, KeepsAllBut}
 use Rattle.argument.specs.Theorems.{AllCovered}
 use Rattle.argument.proofs.Sums.{last}
 use Rattle.argument.proofs.Exchange.{any-true}
-use Rattle.argument.proofs.Laws.{number, same-number}
+use Rattle.argument.proofs.Numbered.{number, same-number}
 
 -- every number below n passes
 abbrev all : ℕ → (ℕ → Bool) → Bool
@@ -98,13 +98,15 @@ idles-not-is plan log k e t a b =
     let f = all-true (log .job k .start) (λ t. ltb t (log .job k .release) || any (log .size) (on-core plan log k t)) e t b in
     let g = any-true (log .size) (on-core plan log k t) (unless (ltb t (log .job k .release)) (any (log .size) (on-core plan log k t)) f (early a)) in
     let p = and-parts (eqb (coreOf plan (log .job (g .0))) (coreOf plan (log .job k))) (leb (log .job (g .0) .start) t && ltb t (log .job (g .0) .end)) (g .2) in
-    let q = and-parts (leb (log .job (g .0) .start) t) (ltb t (log .job (g .0) .end)) (p .1) in
-    (g .0, record {
-      known = g .1;
-      same = eqb-true (coreOf plan (log .job (g .0))) (coreOf plan (log .job k)) (p .0);
-      from = leb-true (log .job (g .0) .start) t (q .0);
-      to = ltb-true t (log .job (g .0) .end) (q .1);
-    })
+    let q = and-parts (leb (log .job (g .0) .start) t) (ltb t (log .job (g .0) .end)) (p .1) in (
+      g .0,
+      record {
+        known = g .1;
+        same = eqb-true (coreOf plan (log .job (g .0))) (coreOf plan (log .job k)) (p .0);
+        from = leb-true (log .job (g .0) .start) t (q .0);
+        to = ltb-true t (log .job (g .0) .end) (q .1);
+      },
+    )
   where
     early : log .job k .release ≤ t → ltb t (log .job k .release) ≡ true → ⊥
     early a h = omega (arith, ltb-true t (log .job k .release) h)

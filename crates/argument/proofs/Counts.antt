@@ -71,9 +71,6 @@ spacing n T test x apart lo zero = omega (arith, sum-zero n (λ k. on (test k &&
 spacing n T test x apart lo (suc q) =
     omega (arith, spacing n T test x apart lo q, one, sum-add n front block, sum-le n whole (λ k. front k + block k) split)
   where
-    mid : ℕ
-    mid = lo + q * T
-
     front : ℕ → ℕ
     front k = on (test k && within lo (lo + q * T) (x k)) 1
 

@@ -32,10 +32,6 @@ pub on-sub : (p q : Bool) (x : ℕ) → (p ≡ true → q ≡ true) → on p x �
 on-sub true q x h = omega (arith, on-true q x (h refl))
 on-sub false q x h = omega arith
 
-pub on-add : (p : Bool) (x y : ℕ) → on p (x + y) ≡ on p x + on p y
-on-add true x y = refl
-on-add false x y = refl
-
 pub sum-on : (n : ℕ) (p : Bool) (f : ℕ → ℕ) → sum n (λ k. on p (f k)) ≡ on p (sum n f)
 sum-on n true f = refl
 sum-on n false f = sum-none n
@@ -72,13 +68,6 @@ exchange n m task test φ known =
         ap (on (test k)) (sym (sum-single m (task k) φ (known k l)))
         ∙ sym (sum-on m (test k) (λ u. on (eqb (task k) u) (φ u)))
         ∙ sum-eq m (λ u. on (test k) (on (eqb (task k) u) (φ u))) (λ u. φ u * on (test k && eqb (task k) u) 1) (λ u c. inner k u)
-
--- the same with no weight
-pub grouped : (n m : ℕ) (task : ℕ → ℕ) (test : ℕ → Bool) → ((k : ℕ) → k < n → task k < m)
-    → sum n (λ k. on (test k) 1) ≡ sum m (λ u. sum n (λ k. on (test k && eqb (task k) u) 1))
-grouped n m task test known =
-    exchange n m task test (λ _. 1) known
-    ∙ sum-eq m (λ u. 1 * sum n (λ k. on (test k && eqb (task k) u) 1)) (λ u. sum n (λ k. on (test k && eqb (task k) u) 1)) (λ u l. omega arith)
 
 -- split a sum by a key below m
 pub by-key : (n m : ℕ) (key : ℕ → ℕ) (f : ℕ → ℕ) → ((k : ℕ) → k < n → key k < m)

@@ -2,9 +2,10 @@
 use mathlib.Core.Path.{_≡_, refl, sym, ap, _∙_}
 use mathlib.Core.Logic.{inl, inr}
 use mathlib.Core.List.{List, [], _∷_}
-use Prim.Native.Nat.{ℕ, zero, suc, _+_, _*_, _-_, min, max, _≤_, _<_}
+use Prim.Native.Nat.{ℕ, _+_, max, _≤_, _<_}
 use native.Mathlib.Omega.{arith}
 use lib.Dec.{ltb}
+use Rattle.std.proofs.shelf.Sums.{sumBy-cons}
 use Rattle.std.proofs.shelf.Tests.{cases-lt, lt-ltb, le-ltb}
 use Rattle.tasks.specs.declared.limit.Limit.{Limit}
 use Rattle.tasks.specs.declared.limit.Limit.the-variants.{Phases, Unlimited}
@@ -12,17 +13,21 @@ use Rattle.tasks.specs.Limits.{capped}
 use Rattle.argument.specs.Sums.{sum, on, greatest}
 use Rattle.argument.specs.Plans.{Plan}
 use Rattle.argument.specs.Demand.{offered, longer, share}
-use Rattle.argument.specs.Greedy.{less, taken, NoneLonger, Falling, manyLonger, Offers}
+use Rattle.argument.specs.Greedy.{less, taken, NoneLonger, Falling, manyLonger}
 use Rattle.argument.specs.Theorems.{Longest-first-reaches-the-share}
 use Rattle.argument.proofs.Sums.{sum-zero, sum-eq, sum-add, sum-split}
 use Rattle.argument.proofs.Counts.{on-true, on-false}
 use Rattle.argument.proofs.Exchange.{greatest-point}
 use Rattle.argument.proofs.Shares.{layers}
 
+-- the first entry and the rest
+many-cons : (l length many : ℕ) (rest : List (ℕ × ℕ)) → manyLonger l ((length, many) ∷ rest) ≡ on (ltb l length) many + manyLonger l rest
+many-cons l length many rest = sumBy-cons (λ phase. on (ltb l (phase .0)) (phase .1)) (length, many) rest
+
 none-longer : (phases : List (ℕ × ℕ)) (most l : ℕ) → NoneLonger most phases → most ≤ l → manyLonger l phases ≡ 0
 none-longer [] most l h k = refl
 none-longer ((length, many) ∷ rest) most l h k =
-    omega (arith, none-longer rest most l (h .1) k, on-false (ltb l length) many (le-ltb l length (omega (arith, h .0))))
+    omega (arith, many-cons l length many rest, none-longer rest most l (h .1) k, on-false (ltb l length) many (le-ltb l length (omega (arith, h .0))))
 
 capped-none : (limit : Limit) → capped limit 0 ≡ 0
 capped-none (Phases m) = omega arith
@@ -47,21 +52,21 @@ by-layers ((length, many) ∷ rest) limit most f m =
       by-layers rest (less limit many) most (f .1) (m .1),
       layers most length (capped limit many) (m .0),
       sum-add most (λ l. on (ltb l length) (capped limit many)) (λ l. capped (less limit many) (manyLonger l rest)),
-      sum-eq most (λ l. capped limit (on (ltb l length) many + manyLonger l rest))
+      sum-eq most (λ l. capped limit (manyLonger l ((length, many) ∷ rest)))
           (λ l. on (ltb l length) (capped limit many) + capped (less limit many) (manyLonger l rest)) each,
     )
   where
-    each : (l : ℕ) → l < most → capped limit (on (ltb l length) many + manyLonger l rest)
+    each : (l : ℕ) → l < most → capped limit (manyLonger l ((length, many) ∷ rest))
         ≡ on (ltb l length) (capped limit many) + capped (less limit many) (manyLonger l rest)
     each l _ =
         elim (cases-lt l length) [
           | inl b ↦
-              ap (λ n. capped limit (n + manyLonger l rest)) (on-true (ltb l length) many (lt-ltb l length b))
+              ap (capped limit) (many-cons l length many rest ∙ ap (λ n. n + manyLonger l rest) (on-true (ltb l length) many (lt-ltb l length b)))
               ∙ capped-add limit many (manyLonger l rest)
               ∙ ap (λ n. n + capped (less limit many) (manyLonger l rest)) (sym (on-true (ltb l length) (capped limit many) (lt-ltb l length b)))
           | inr b ↦
               let z = none-longer rest length l (f .0) b in
-              let y : on (ltb l length) many + manyLonger l rest ≡ 0 = omega (arith, on-false (ltb l length) many (le-ltb l length b), z) in
+              let y : manyLonger l ((length, many) ∷ rest) ≡ 0 = omega (arith, many-cons l length many rest, on-false (ltb l length) many (le-ltb l length b), z) in
               omega (
                 arith,
                 on-false (ltb l length) (capped limit many) (le-ltb l length b),
@@ -89,11 +94,11 @@ layers-more plan core w limit extra =
     none l = sum-zero (plan .size)
         (λ u. on (ltb (M + l) (plan .row u .a)) (offered core w (plan .row u)) + on (ltb (M + l) (plan .row u .r)) (offered core w (plan .row u)))
         (λ u k. let top = greatest-point (plan .size) (λ u. max (plan .row u .a) (plan .row u .r)) u k in
-          omega (
-            arith,
-            on-false (ltb (M + l) (plan .row u .a)) (offered core w (plan .row u)) (le-ltb (M + l) (plan .row u .a) (omega (arith, top))),
-            on-false (ltb (M + l) (plan .row u .r)) (offered core w (plan .row u)) (le-ltb (M + l) (plan .row u .r) (omega (arith, top))),
-          ))
+        omega (
+          arith,
+          on-false (ltb (M + l) (plan .row u .a)) (offered core w (plan .row u)) (le-ltb (M + l) (plan .row u .a) (omega (arith, top))),
+          on-false (ltb (M + l) (plan .row u .r)) (offered core w (plan .row u)) (le-ltb (M + l) (plan .row u .r) (omega (arith, top))),
+        ))
 
 longest : List (ℕ × ℕ) → ℕ
 longest [] = 0

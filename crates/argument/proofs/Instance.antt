@@ -6,7 +6,7 @@ use Prim.Native.Nat.{ℕ, zero, suc, _+_, _*_, max, _≤_, _<_}
 use native.Mathlib.Omega.{arith}
 use native.Mathlib.Nat.{add-zero}
 use lib.Dec.{eqb}
-use Rattle.std.proofs.shelf.Tests.{and-from, and-right, both-ways, cases-lt, cases-eq, cases-bool, eqb-true, eqb-false, eq-eqb, ne-eqb, not-from-false}
+use Rattle.std.proofs.shelf.Tests.{and-from, and-right, cases-lt, cases-eq, cases-bool, eqb-true, eqb-false, eq-eqb, ne-eqb, not-from-false}
 use Rattle.tasks.specs.declared.limit.Limit.{Limit}
 use Rattle.tasks.specs.declared.limit.Limit.the-variants.{Phases, Unlimited}
 use Rattle.tasks.specs.Limits.{Within, times}
@@ -24,6 +24,7 @@ use Rattle.argument.proofs.Sums.{sum-zero, sum-le, sum-eq, sum-mul}
 use Rattle.argument.proofs.Counts.{on-le, on-true, on-false}
 use Rattle.argument.proofs.Exchange.{on-mono, by-key}
 use Rattle.argument.proofs.Shares.{choice-le-share, within-less}
+use Rattle.argument.proofs.Numbered.{number}
 use Rattle.argument.proofs.Bound.{bound}
 
 below-two : (F : ℕ → Type 0) → F 0 → F 1 → (k : ℕ) → k < 2 → F k
@@ -97,46 +98,31 @@ none-other b c g x e = subst (λ z. on (not (eqb b z) && eqb b g) x ≡ 0) e (ne
 none-there : (p : Bool) (b g x : ℕ) → b < g → on (p && eqb b g) x ≡ 0
 none-there p b g x l = on-false (p && eqb b g) x (and-right p (eqb b g) (ne-eqb b g (λ e. omega arith)))
 
-is-alone : B.Law → Bool
-is-alone B.possible-moments = false
-is-alone B.spacing = false
-is-alone B.one-at-a-time = true
-is-alone B.no-idling = false
-is-alone B.right-choice = false
-is-alone B.never-free = false
-is-alone B.limits-kept = false
-
-others-keep : (law : B.Law) → is-alone law ≡ false → law ≡ B.one-at-a-time → ⊥
-unfolding is-alone
-others-keep law e same = both-ways (is-alone law) e (ap is-alone same)
+-- a law with another number than one at a time
+others-keep : (law : B.Law) → (number law ≡ number B.one-at-a-time → ⊥) → law ≡ B.one-at-a-time → ⊥
+others-keep law ne same = ne (ap number same)
 
 module _ (plan : Plan) (limits : ℕ → ℕ → Limit) (log : B.Log) (sound : SoundPlan plan) (keeps : B.KeepsAllBut B.one-at-a-time plan limits log) where
   abbrev core : ℕ → ℕ
   core k = B.coreOf plan (log .job k)
 
   possibles : B.PossibleMoments plan log
-  unfolding is-alone
-  possibles = keeps B.possible-moments (others-keep B.possible-moments refl)
+  possibles = keeps B.possible-moments (others-keep B.possible-moments (λ e. omega arith))
 
   spaced : B.Spaced plan log
-  unfolding is-alone
-  spaced = keeps B.spacing (others-keep B.spacing refl)
+  spaced = keeps B.spacing (others-keep B.spacing (λ e. omega arith))
 
   busy : B.NoIdling plan log
-  unfolding is-alone
-  busy = keeps B.no-idling (others-keep B.no-idling refl)
+  busy = keeps B.no-idling (others-keep B.no-idling (λ e. omega arith))
 
   right : B.RightChoice plan log
-  unfolding is-alone
-  right = keeps B.right-choice (others-keep B.right-choice refl)
+  right = keeps B.right-choice (others-keep B.right-choice (λ e. omega arith))
 
   never-free : B.NeverFree plan log
-  unfolding is-alone
-  never-free = keeps B.never-free (others-keep B.never-free refl)
+  never-free = keeps B.never-free (others-keep B.never-free (λ e. omega arith))
 
   kept : B.LimitsKept plan limits log
-  unfolding is-alone
-  kept = keeps B.limits-kept (others-keep B.limits-kept refl)
+  kept = keeps B.limits-kept (others-keep B.limits-kept (λ e. omega arith))
 
   carries : (k t : ℕ) (y : B.Turn) (j : ℕ) → B.Carried plan log k t y j → (j : ℕ) × (y : ℕ) × G.Carried (toPlan plan) (toLog log) (core k) t j y
   carries k t B.A j v = (j, 0, record { known = v .known; other = v .other; turn = omega arith; from = v .from; to = v .to })

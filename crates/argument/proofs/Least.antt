@@ -2,7 +2,7 @@
 use mathlib.Core.Path.{refl, sym, ap, _∙_}
 use mathlib.Core.Logic.{inl, inr}
 use mathlib.Core.Bool.{cond, not}
-use Prim.Native.Nat.{ℕ, zero, suc, _+_, _*_, _-_, max, _≤_, _<_}
+use Prim.Native.Nat.{ℕ, zero, suc, _+_, _-_, max, _≤_, _<_}
 use native.Mathlib.Omega.{arith}
 use native.Mathlib.Nat.{mul-le-mul-left, mul-le-mul-right, div-zero, div-mul-le-self, le-div-iff-mul-le}
 use lib.Dec.{leb, ltb, eqb}
@@ -12,11 +12,11 @@ use Rattle.tasks.specs.declared.limit.Limit.the-variants.{Phases, Unlimited}
 use Rattle.tasks.specs.Limits.{times, capped}
 use Rattle.tasks.specs.declared.task.Row.{Row}
 use Rattle.tasks.specs.Rows.{cost}
-use Rattle.argument.specs.Sums.{on, greatest, ceil}
+use Rattle.argument.specs.Sums.{greatest, ceil}
 use Rattle.tasks.specs.declared.outcome.Outcome.the-variants.{Window, Late}
 use Rattle.argument.specs.Plans.{Plan, level}
 use Rattle.argument.specs.Greedy.{searched}
-use Rattle.argument.specs.Theorems.{Demand-never-falls, A-jump-passes-no-covering-number, The-search-misses-no-covering-number, The-outcome-is-fixed}
+use Rattle.argument.specs.Theorems.{Demand-never-falls, A-jump-passes-no-covering-number, Jumping-ends-at-the-outcome, The-outcome-is-fixed}
 use Rattle.argument.specs.Demand.{shares, NoneBelow, Settles, jobs, own, turns, offered, longer, share, demand}
 use Rattle.argument.proofs.Sums.{sum-le}
 use Rattle.argument.proofs.Exchange.{on-mono}
@@ -26,42 +26,35 @@ ceil-mono v w zero h = omega (arith, div-zero (v + (0 - 1)), div-zero (w + (0 - 
 ceil-mono v w (suc t) h = le-div-iff-mul-le (omega arith) .1 (omega (arith, div-mul-le-self (v + (suc t - 1)) (suc t)))
 
 jobs-mono : (task : Row) (v w : ℕ) (other : Row) → v ≤ w → jobs task v other ≤ jobs task w other
-jobs-mono task v w other h = on-mono (level task other) (ceil v (other .spacing)) (ceil w (other .spacing)) (λ _. ceil-mono v w (other .spacing) h)
+jobs-mono task v w other h = on-mono (level task other) _ _ (λ _. ceil-mono v w (other .spacing) h)
 
 own-mono : (plan : Plan) (task : Row) (v w : ℕ) → v ≤ w → own plan task v ≤ own plan task w
-own-mono plan task v w h = sum-le (plan .size) (λ u. cost (plan .row u) * jobs task v (plan .row u)) (λ u. cost (plan .row u) * jobs task w (plan .row u))
-    (λ u _. mul-le-mul-left (cost (plan .row u)) (jobs-mono task v w (plan .row u) h))
+own-mono plan task v w h = sum-le (plan .size) _ _ (λ u _. mul-le-mul-left (cost (plan .row u)) (jobs-mono task v w (plan .row u) h))
 
 turns-mono : (plan : Plan) (task : Row) (v w : ℕ) → v ≤ w → turns plan task v ≤ turns plan task w
-turns-mono plan task v w h = omega (arith, sum-le (plan .size) (λ u. jobs task v (plan .row u)) (λ u. jobs task w (plan .row u)) (λ u _. jobs-mono task v w (plan .row u) h))
+turns-mono plan task v w h =
+    omega (arith, sum-le (plan .size) (λ u. jobs task v (plan .row u)) (λ u. jobs task w (plan .row u)) (λ u _. jobs-mono task v w (plan .row u) h))
 
-offered-mono : (b v w : ℕ) (h : Row) → v ≤ w → offered b v h ≤ offered b w h
-offered-mono b v w h l = on-mono (eqb (h .core) b) (ceil (v + h .deadline) (h .spacing)) (ceil (w + h .deadline) (h .spacing)) (λ _. ceil-mono (v + h .deadline) (w + h .deadline) (h .spacing) (omega arith))
+offered-mono : (core v w : ℕ) (other : Row) → v ≤ w → offered core v other ≤ offered core w other
+offered-mono core v w other h = on-mono (eqb (other .core) core) _ _ (λ _. ceil-mono _ _ (other .spacing) (omega arith))
 
-longer-mono : (plan : Plan) (b v w l : ℕ) → v ≤ w → longer plan b v l ≤ longer plan b w l
-longer-mono plan b v w l h = sum-le (plan .size)
-    (λ u. on (ltb l (plan .row u .a)) (offered b v (plan .row u)) + on (ltb l (plan .row u .r)) (offered b v (plan .row u)))
-    (λ u. on (ltb l (plan .row u .a)) (offered b w (plan .row u)) + on (ltb l (plan .row u .r)) (offered b w (plan .row u)))
-    (λ u _. omega (
-      arith,
-      on-mono (ltb l (plan .row u .a)) (offered b v (plan .row u)) (offered b w (plan .row u)) (λ _. offered-mono b v w (plan .row u) h),
-      on-mono (ltb l (plan .row u .r)) (offered b v (plan .row u)) (offered b w (plan .row u)) (λ _. offered-mono b v w (plan .row u) h),
-    ))
+longer-mono : (plan : Plan) (core v w l : ℕ) → v ≤ w → longer plan core v l ≤ longer plan core w l
+longer-mono plan core v w l h = sum-le (plan .size) _ _ (λ u _. omega (
+  arith,
+  on-mono (ltb l (plan .row u .a)) (offered core v (plan .row u)) (offered core w (plan .row u)) (λ _. offered-mono core v w (plan .row u) h),
+  on-mono (ltb l (plan .row u .r)) (offered core v (plan .row u)) (offered core w (plan .row u)) (λ _. offered-mono core v w (plan .row u) h),
+))
 
 capped-mono : (limit : Limit) (k m x y : ℕ) → k ≤ m → x ≤ y → capped (times k limit) x ≤ capped (times m limit) y
 capped-mono (Phases n) k m x y h l = omega (arith, mul-le-mul-right n h)
 capped-mono Unlimited k m x y h l = l
 
-share-mono : (plan : Plan) (limit : Limit) (b k m v w : ℕ) → k ≤ m → v ≤ w → share plan b v (times k limit) ≤ share plan b w (times m limit)
-share-mono plan limit b k m v w h l = sum-le (greatest (plan .size) (λ u. max (plan .row u .a) (plan .row u .r)))
-    (λ l. capped (times k limit) (longer plan b v l)) (λ l. capped (times m limit) (longer plan b w l))
-    (λ x _. capped-mono limit k m (longer plan b v x) (longer plan b w x) h (longer-mono plan b v w x l))
+share-mono : (plan : Plan) (limit : Limit) (core k m v w : ℕ) → k ≤ m → v ≤ w → share plan core v (times k limit) ≤ share plan core w (times m limit)
+share-mono plan limit core k m v w h l = sum-le (greatest (plan .size) (λ u. max (plan .row u .a) (plan .row u .r))) _ _
+    (λ x _. capped-mono limit k m _ _ h (longer-mono plan core v w _ l))
 
 shares-mono : (plan : Plan) (limits : ℕ → ℕ → Limit) (task : Row) (v w : ℕ) → v ≤ w → shares plan limits task v ≤ shares plan limits task w
-shares-mono plan limits task v w h = sum-le (plan .cores)
-    (λ b. on (not (eqb b (task .core))) (share plan b v (times (turns plan task v) (limits (task .core) b))))
-    (λ b. on (not (eqb b (task .core))) (share plan b w (times (turns plan task w) (limits (task .core) b))))
-    (λ b _. on-mono (not (eqb b (task .core))) (share plan b v (times (turns plan task v) (limits (task .core) b))) (share plan b w (times (turns plan task w) (limits (task .core) b)))
+shares-mono plan limits task v w h = sum-le (plan .cores) _ _ (λ b _. on-mono (not (eqb b (task .core))) _ _
     (λ _. share-mono plan (limits (task .core) b) b (turns plan task v) (turns plan task w) v w (turns-mono plan task v w h) h))
 
 pub demand-mono : Demand-never-falls
@@ -81,17 +74,17 @@ from plan limits place (suc jumps) w some enough none =
     (λ inside. cond-both (leb (demand plan limits place w) w) (Window w) (searched plan limits place jumps (demand plan limits place w)) (Settles plan limits place)
     (λ covers. (record { some = some; in-time = ltb-false D w inside; covers = leb-true (demand plan limits place w) w covers }, none))
     (λ beyond. let more = leb-false (demand plan limits place w) w beyond in
-      from plan limits place jumps (demand plan limits place w) (omega arith) (omega arith)
-      (λ v a b. elim (cases-lt v w) [
-        | inl before ↦ none v a before
-        | inr after ↦ λ c. omega (arith, jump plan limits place w v after c)
-      ])))
+    from plan limits place jumps (demand plan limits place w) (omega arith) (omega arith)
+    (λ v a b. elim (cases-lt v w) [
+      | inl before ↦ none v a before
+      | inr after ↦ λ c. omega (arith, jump plan limits place w v after c)
+    ])))
   where
     D : ℕ
     D = plan .row place .deadline
 
-pub search-settles : The-search-misses-no-covering-number
-search-settles plan limits place = from plan limits place (plan .row place .deadline) 1 (omega arith) (omega arith) (λ v a b. absurd (nothing v a b))
+pub jumping-settles : Jumping-ends-at-the-outcome
+jumping-settles plan limits place = from plan limits place (plan .row place .deadline) 1 (omega arith) (omega arith) (λ v a b. absurd (nothing v a b))
   where
     nothing : (v : ℕ) → 1 ≤ v → v < 1 → ⊥
     nothing v a b = omega arith

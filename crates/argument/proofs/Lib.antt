@@ -1,17 +1,20 @@
+-- what other crates may cite: sums and counts, the theorems, and the tests of a written-out plan and log
 pub mod Sums
-mod Counts
-mod Searches
-mod Exchange
-mod Shares
-mod Reach
+pub mod Counts
+pub mod Exchange
+pub mod Reach
 pub mod Greedy
 pub mod Least
+pub mod Instance
+pub mod Checks
+-- the way there
+mod Searches
+mod Shares
 mod BusyWindow
 mod Cover
 mod OwnTicks
 mod OtherCores
 mod Bound
-mod Instance
-mod Laws
-mod Checks
+mod Numbered
 mod Sample
+mod Witnesses

@@ -8,7 +8,6 @@ use lib.Dec.{ltb, eqb}
 use Rattle.std.proofs.shelf.Tests.{cases-lt, cases-eq, lt-ltb, le-ltb, ltb-true, eq-eqb, ne-eqb, cond-true, cond-false}
 use Rattle.tasks.specs.declared.limit.Limit.{Limit}
 use Rattle.tasks.specs.declared.limit.Limit.the-variants.{Phases, Unlimited}
-use Rattle.tasks.specs.Limits.{capped}
 use Rattle.argument.specs.Sums.{sum, on, greatest}
 use Rattle.argument.specs.Plans.{Plan}
 use Rattle.argument.specs.Demand.{offered, Choice, total, longer, share}

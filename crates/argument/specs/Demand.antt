@@ -1,6 +1,6 @@
 -- Demand: the ticks that can go by while a job of a task waits and runs, and the numbers that cover it. Assumes nothing.
 use mathlib.Core.Path.{_≡_}
-use mathlib.Core.Bool.{Bool, not}
+use mathlib.Core.Bool.{not}
 use Prim.Native.Nat.{ℕ, _+_, _*_, max, _≤_, _<_}
 use lib.Dec.{ltb, eqb}
 use Rattle.tasks.specs.declared.task.Row.{Row}

@@ -4,6 +4,7 @@ use mathlib.Core.Bool.{cond}
 use mathlib.Core.List.{List, [], _∷_}
 use Prim.Native.Nat.{ℕ, zero, suc, _+_, _-_, _*_, _≤_}
 use lib.Dec.{leb, ltb}
+use Rattle.std.specs.shelf.Lists.{sumBy}
 use Rattle.tasks.specs.declared.limit.Limit.{Limit}
 use Rattle.tasks.specs.declared.limit.Limit.the-variants.{Phases, Unlimited}
 use Rattle.tasks.specs.declared.outcome.Outcome.{Outcome}
@@ -37,8 +38,7 @@ Falling ((length, many) ∷ rest) = NoneLonger length rest × Falling rest
 
 -- how many phases are longer than l
 abbrev pub manyLonger : ℕ → List (ℕ × ℕ) → ℕ
-manyLonger l [] = 0
-manyLonger l ((length, many) ∷ rest) = on (ltb l length) many + manyLonger l rest
+manyLonger l phases = sumBy (λ phase. on (ltb l (phase .0)) (phase .1)) phases
 
 -- the list has the phases that the core offers: of each length as many, in whatever order and entries
 abbrev pub Offers : Plan → ℕ → ℕ → List (ℕ × ℕ) → Type 0

@@ -1,13 +1,12 @@
 -- The box with three tasks on two cores: its plan, its limits, the log of its first jobs, and its windows. Assumes nothing.
-use mathlib.Core.List.{List, [], _∷_}
+use mathlib.Core.List.{[], _∷_}
 use Prim.Native.Nat.{ℕ, zero, suc}
-use Rattle.tasks.specs.declared.task.Row.{Row}
 use Rattle.tasks.specs.declared.limit.Limit.{Limit}
 use Rattle.tasks.specs.declared.limit.Limit.the-variants.{Phases, Unlimited}
 use Rattle.tasks.specs.declared.outcome.Outcome.{Outcome}
 use Rattle.tasks.specs.declared.outcome.Outcome.the-variants.{Window, Late}
 use Rattle.argument.specs.Plans.{Plan, planOf, SoundPlan}
-use Rattle.argument.specs.Demand.{GreatestTotal, WindowFor, Settles}
+use Rattle.argument.specs.Demand.{GreatestTotal, Settles}
 use Rattle.argument.specs.Logs.{Job, Log, logOf, KeepsTheLaws}
 
 -- tasks 1 and 2 on core 0, task 3 on core 1; the deadline of task 3 is given, all others are the spacing

@@ -2,9 +2,10 @@
 use mathlib.Core.Path.{_≡_}
 use mathlib.Core.Bool.{Bool}
 use mathlib.Core.List.{List}
-use Prim.Native.Nat.{ℕ, _+_, _*_, _≤_, _<_}
+use Prim.Native.Nat.{ℕ, _+_, _≤_, _<_}
 use Rattle.tasks.specs.declared.limit.Limit.{Limit}
 use Rattle.tasks.specs.declared.outcome.Outcome.{Outcome}
+use Rattle.tasks.specs.declared.outcome.Outcome.the-variants.{Window, Late}
 use Rattle.argument.specs.Plans.{Plan, SoundPlan}
 use Rattle.argument.specs.Demand.{share, GreatestTotal, demand, WindowFor, Settles}
 use Rattle.argument.specs.Greedy.{taken, Falling, Offers, searched}
@@ -38,21 +39,38 @@ pub record Needed (law : Law) : Type 0 where
   pub keeps : KeepsAllBut law plan limits log
   pub late : SomeJobEndsBeyond windows log
 
--- a window cannot be trusted while another task is late: some log of a sound plan keeps all laws, one task has a number that covers, and
--- a job of it ends beyond that number, since a task of another core has no such number
+-- a window cannot be trusted while another task is late: a number covers the demand of one task, a task of another core has no such
+-- number, the log keeps all laws, and a job of the first ends beyond its number
 pub record A-window-alone-is-not-enough : Type 0 where
   pub plan : Plan
   pub limits : ℕ → ℕ → Limit
   pub log : Log
+  pub sound : SoundPlan plan
+  pub keeps : KeepsTheLaws plan limits log
   pub place : ℕ
   pub ticks : ℕ
-  pub sound : SoundPlan plan
   pub window : WindowFor plan limits place ticks
-  pub keeps : KeepsTheLaws plan limits log
+  pub other : ℕ
+  pub apart : plan .row other .core ≡ plan .row place .core → ⊥
+  pub ticks-other : ℕ
+  pub late : Settles plan limits other (Late ticks-other)
   pub job : ℕ
   pub known : job < log .size
   pub of-task : log .job job .task ≡ place
-  pub late : log .job job .release + ticks < log .job job .end
+  pub beyond : log .job job .release + ticks < log .job job .end
+
+-- a window can be reached: every task has one, the log keeps all laws, and a job ends at the very last tick of its task's least window
+pub record A-window-can-be-reached : Type 0 where
+  pub plan : Plan
+  pub limits : ℕ → ℕ → Limit
+  pub windows : ℕ → ℕ
+  pub log : Log
+  pub sound : SoundPlan plan
+  pub settled : (place : ℕ) → place < plan .size → Settles plan limits place (Window (windows place))
+  pub keeps : KeepsTheLaws plan limits log
+  pub job : ℕ
+  pub known : job < log .size
+  pub at-the-end : log .job job .end ≡ log .job job .release + windows (log .job job .task)
 
 -- the bound over turns, for jobs with any number of them, a delay from release to ready, a reach, and groups of cores
 abbrev pub Every-job-ends-within-its-window-in-general : Type 0
@@ -84,8 +102,8 @@ A-jump-passes-no-covering-number = (plan : Plan) (limits : ℕ → ℕ → Limit
     → w ≤ v → demand plan limits place v ≤ v → demand plan limits place w ≤ v
 
 -- the search from 1 ends with the outcome of the task, after at most D jumps
-abbrev pub The-search-misses-no-covering-number : Type 0
-The-search-misses-no-covering-number = (plan : Plan) (limits : ℕ → ℕ → Limit) (place : ℕ)
+abbrev pub Jumping-ends-at-the-outcome : Type 0
+Jumping-ends-at-the-outcome = (plan : Plan) (limits : ℕ → ℕ → Limit) (place : ℕ)
     → Settles plan limits place (searched plan limits place (plan .row place .deadline) 1)
 
 -- a task has one outcome only

@@ -1,5 +1,0 @@
-use Rattle.argument.proofs.Least.{demand-mono}
-use Rattle.argument.proofs.demand_never_falls.Needs as need
-
-pub returns : need.returns
-returns c = demand-mono

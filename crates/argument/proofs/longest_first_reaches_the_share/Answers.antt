@@ -1,5 +1,0 @@
-use Rattle.argument.proofs.Greedy.{longest-first}
-use Rattle.argument.proofs.longest_first_reaches_the_share.Needs as need
-
-pub returns : need.returns
-returns c = longest-first

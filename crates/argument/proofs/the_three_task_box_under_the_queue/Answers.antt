@@ -1,5 +1,0 @@
-use Rattle.argument.proofs.Sample.{queue}
-use Rattle.argument.proofs.the_three_task_box_under_the_queue.Needs as need
-
-pub returns : need.returns
-returns c = queue

@@ -1,5 +1,0 @@
-use Rattle.argument.proofs.Sample.{late}
-use Rattle.argument.proofs.the_three_task_box_with_a_late_task.Needs as need
-
-pub returns : need.returns
-returns c = late

@@ -1,5 +1,0 @@
-use Rattle.argument.proofs.Sample.{favoured}
-use Rattle.argument.proofs.the_three_task_box_with_port_0_favoured.Needs as need
-
-pub returns : need.returns
-returns c = favoured

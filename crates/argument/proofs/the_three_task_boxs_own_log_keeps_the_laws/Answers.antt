@@ -1,5 +1,0 @@
-use Rattle.argument.proofs.Sample.{log-keeps}
-use Rattle.argument.proofs.the_three_task_boxs_own_log_keeps_the_laws.Needs as need
-
-pub returns : need.returns
-returns c = log-keeps
