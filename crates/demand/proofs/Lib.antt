@@ -1,2 +1,3 @@
 mod Taking
 mod OwnCore
+mod Keeping

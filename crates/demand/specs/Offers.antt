@@ -1,7 +1,7 @@
--- The phases that the tasks of a core offer, and the order in which they are kept. Assumes nothing.
+-- The phases that tasks offer, the order in which they are kept, and those of one core. Assumes nothing.
 use mathlib.Core.Path.{sym}
 use mathlib.Core.Bool.{cond}
-use mathlib.Core.List.{List, [], _∷_, map}
+use mathlib.Core.List.{List, [], _∷_}
 use Prim.Native.Nat.{ℕ, zero, suc, _+_}
 use lib.Dec.{eqb}
 use Rattle.std.specs.declared.cmp.Ordering.{Ordering}
@@ -10,7 +10,6 @@ use Rattle.std.specs.Derived.{on, fields, by-place}
 use Rattle.roster.specs.Order.{insertBy}
 use Rattle.tasks.specs.declared.task.Row.{Row}
 use Rattle.argument.specs.Sums.{ceil}
-use Rattle.argument.specs.Plans.{Plan}
 use Rattle.demand.specs.contracts.offer.OfferOrd.the-impl.{ghosts}
 use Rattle.demand.specs.contracts.offer.Phase.{enum}
 use Rattle.demand.specs.declared.offer.Offer.{Offer}
@@ -21,12 +20,13 @@ use Rattle.demand.specs.declared.offer.Phase.the-variants.{A, R}
 pub record Listed : Type 0 where
   pub length : ℕ
   pub place : ℕ
+  pub core : ℕ
   pub phase : Phase
   pub spacing : ℕ
   pub deadline : ℕ
 
 abbrev pub listed : Offer → Listed
-listed offer = record { length = offer .length .0; place = offer .place; phase = offer .phase; spacing = offer .spacing; deadline = offer .deadline }
+listed offer = record { length = offer .length .0; place = offer .place; core = offer .core; phase = offer .phase; spacing = offer .spacing; deadline = offer .deadline }
 
 -- an order, the other way round
 abbrev pub turned : {K : Type 0} {R : K → K → Ordering → Type 0} → Total R → Total (λ (x y : K). R y x)
@@ -38,31 +38,36 @@ turned o = record {
   alike = λ x y z e. sym (alike-right o y x z e);
 }
 
--- by falling length, then in plan order, then A before R; the spacing and the deadline never decide
+-- the parts of an offer that decide, the first first: length, place in the plan, phase; the rest never decides between two offers of a plan
+abbrev pub parts : Listed → ℕ × (ℕ × (Phase × (ℕ × (ℕ × ℕ))))
+parts l = (l .length, (l .place, (l .phase, (l .core, (l .spacing, l .deadline)))))
+
+-- by falling length, then in plan order, then A before R
 abbrev pub keeping : Listed → Listed → Ordering
-keeping x y = fields (turned unsigned) (fields unsigned (fields (by-place enum) (fields unsigned unsigned))) .cmp (parts x) (parts y)
-  where
-    parts : Listed → ℕ × (ℕ × (Phase × (ℕ × ℕ)))
-    parts l = (l .length, (l .place, (l .phase, (l .spacing, l .deadline))))
+keeping x y = fields (turned unsigned) (fields unsigned (fields (by-place enum) (fields unsigned (fields unsigned unsigned)))) .cmp (parts x) (parts y)
 
 abbrev pub offerOrder : Total (ghosts .orders)
-offerOrder = on (λ (o : Offer). (o .length .0, (o .place, (o .phase, (o .spacing, o .deadline))))) (fields (turned unsigned) (fields unsigned (fields (by-place enum) (fields unsigned unsigned))))
+offerOrder = on (λ (o : Offer). parts (listed o)) (fields (turned unsigned) (fields unsigned (fields (by-place enum) (fields unsigned (fields unsigned unsigned)))))
 
 abbrev pub lengthOf : Phase → Row → ℕ
 lengthOf A row = row .a
 lengthOf R row = row .r
 
 abbrev pub listing : Row → ℕ → Phase → Listed
-listing row place phase = record { length = lengthOf phase row; place = place; phase = phase; spacing = row .spacing; deadline = row .deadline }
+listing row place phase =
+    record { length = lengthOf phase row; place = place; core = row .core; phase = phase; spacing = row .spacing; deadline = row .deadline }
 
--- what the tasks at the first places offer, those of one core, in the order in which they are kept
-abbrev pub kept : Plan → ℕ → ℕ → List Listed
-kept plan core zero = []
-kept plan core (suc place) =
-    cond (eqb (plan .row place .core) core)
-    (insertBy keeping (listing (plan .row place) place R) (insertBy keeping (listing (plan .row place) place A) (kept plan core place)))
-    (kept plan core place)
+-- what the tasks at the first places offer, in the order in which it is kept
+abbrev pub kept : (ℕ → Row) → ℕ → List Listed
+kept row zero = []
+kept row (suc place) = insertBy keeping (listing (row place) place R) (insertBy keeping (listing (row place) place A) (kept row place))
+
+-- what the tasks of one core offer
+abbrev pub ofCore : ℕ → List Listed → List Listed
+ofCore core [] = []
+ofCore core (l ∷ rest) = cond (eqb (l .core) core) (l ∷ ofCore core rest) (ofCore core rest)
 
 -- the lengths, each with the number of phases within w ticks: ⌈(w + D) / T⌉
 abbrev pub phasesIn : ℕ → List Listed → List (ℕ × ℕ)
-phasesIn w listings = map (λ l. (l .length, ceil (w + l .deadline) (l .spacing))) listings
+phasesIn w [] = []
+phasesIn w (l ∷ rest) = (l .length, ceil (w + l .deadline) (l .spacing)) ∷ phasesIn w rest

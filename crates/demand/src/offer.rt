@@ -17,6 +17,7 @@ pub struct Offer {
     pub length: Reverse<u32>,
     pub place: usize,
     pub phase: Phase,
+    pub core: u8,
     pub spacing: u32,
     pub deadline: u32,
     ghost some: { 1 ≤ spacing },

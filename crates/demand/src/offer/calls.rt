@@ -21,6 +21,7 @@ impl Offer {
             length: Reverse(length),
             place,
             phase,
+            core: task.row.core,
             spacing: task.row.spacing,
             deadline: task.row.deadline,
         }

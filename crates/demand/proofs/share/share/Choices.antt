@@ -4,10 +4,10 @@ use mathlib.Core.List.{map}
 use lib.ListN.{drop}
 use Rattle.argument.specs.Greedy.{taken}
 use Rattle.demand.specs.Caps.{limitOf}
-use Rattle.demand.specs.Offers.{listed, phasesIn}
+use Rattle.demand.specs.Offers.{listed, ofCore, phasesIn}
 use Rattle.demand.proofs.share.share.Given as given
 
 abbrev pub Inv-loop-offer : given.InvT-loop-offer
 Inv-loop-offer l =
-    (l .ticks + taken (limitOf (l .left)) (phasesIn (l .w) (map listed (drop (l .offer-index) (l .offers)))) ≡ taken (limitOf (l .entry .left)) (phasesIn (l .w) (map listed (l .offers))))
+    (l .ticks + taken (limitOf (l .left)) (phasesIn (l .w) (ofCore (l .core) (map listed (drop (l .offer-index) (l .offers))))) ≡ taken (limitOf (l .entry .left)) (phasesIn (l .w) (ofCore (l .core) (map listed (l .offers)))))
     × (l .ticks ≤ l .offer-index * 400000000000000)
