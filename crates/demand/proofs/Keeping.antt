@@ -3,9 +3,10 @@ use mathlib.Core.Path.{_≡_, refl, sym, ap, _∙_}
 use mathlib.Core.Bool.{Bool, true, false, cond}
 use mathlib.Core.List.{List, [], _∷_}
 use mathlib.Core.Logic.{inl, inr}
-use Prim.Native.Nat.{ℕ, zero, suc, _+_, _≤_}
+use Prim.Native.Nat.{ℕ, zero, suc, _+_, _*_, _≤_}
 use native.Mathlib.Omega.{arith}
 use lib.Dec.{ltb, eqb}
+use lib.ListN.{length}
 use Rattle.std.proofs.shelf.Sums.{sumBy-cons}
 use Rattle.std.proofs.shelf.Tests.{cases-bool, ltb-true, ltb-false, eqb-true, true≢false}
 use Rattle.std.specs.declared.cmp.Ordering.{Ordering}
@@ -113,3 +114,18 @@ kept-counts w core l row (suc n) =
       insert-counts w core l (listing (row n) n A) (kept row n),
       insert-counts w core l (listing (row n) n R) (insertBy keeping (listing (row n) n A) (kept row n)),
       on-swap own (ltb l (row n .a)) many, on-swap own (ltb l (row n .r)) many)
+
+-- ---- two offers for each task
+
+insert-length : (x : Listed) (xs : List Listed) → length (insertBy keeping x xs) ≡ length xs + 1
+insert-length x [] = refl
+insert-length x (y ∷ ys) = elim (cases-bool (isLt (keeping x y))) [
+  | inl e ↦ rw e (omega arith)
+  | inr e ↦ rw e (omega (arith, insert-length x ys))
+]
+
+pub kept-length : (row : ℕ → Row) (n : ℕ) → length (kept row n) ≡ 2 * n
+kept-length row zero = refl
+kept-length row (suc n) =
+    omega (arith, kept-length row n, insert-length (listing (row n) n A) (kept row n),
+      insert-length (listing (row n) n R) (insertBy keeping (listing (row n) n A) (kept row n)))

@@ -1,3 +1,4 @@
 mod Taking
 mod OwnCore
 mod Keeping
+mod Reckoning

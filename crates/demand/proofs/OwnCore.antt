@@ -16,8 +16,16 @@ use Rattle.argument.specs.Plans.{level, lower}
 use Rattle.argument.specs.Demand.{jobs}
 use Rattle.demand.specs.Rows.{rowsOf}
 
-pub sum-next : (i : ℕ) (f : ℕ → ℕ) → sum (i + 1) f ≡ sum i f + f i
+sum-next : (i : ℕ) (f : ℕ → ℕ) → sum (i + 1) f ≡ sum i f + f i
 sum-next i f = rw (add-one i) refl
+
+-- a sum with one more summand
+pub sum-more : (i : ℕ) (f : ℕ → ℕ) (old more : ℕ) → more ≡ f i → old ≡ sum i f → old + more ≡ sum (i + 1) f
+sum-more i f old more m o = omega (arith, sum-next i f)
+
+pub at-most : (b : Bool) (n : ℕ) → on b n ≤ n
+at-most true n = omega arith
+at-most false n = omega arith
 
 greatest-next : (i : ℕ) (f : ℕ → ℕ) → greatest (i + 1) f ≡ max (greatest i f) (f i)
 greatest-next i f = rw (add-one i) refl
@@ -43,13 +51,16 @@ module _ (tasks : List Task) (task : Row) (i : ℕ) (other : Task) (inside : i <
   pub jobs-more : (w old more : ℕ) → more ≡ jobs task w (other .row)
       → old ≡ sum i (λ place. jobs task w (getD (rowsOf tasks) place noRow))
       → old + more ≡ sum (i + 1) (λ place. jobs task w (getD (rowsOf tasks) place noRow))
-  jobs-more w old more n o = rw (n, o, sum-next i (λ place. jobs task w (getD (rowsOf tasks) place noRow)), row-at tasks i other inside is) refl
+  jobs-more w old more n o =
+      sum-more i (λ place. jobs task w (getD (rowsOf tasks) place noRow)) old more (n ∙ ap (jobs task w) (sym (row-at tasks i other inside is))) o
 
   pub ticks-more : (w old long more : ℕ) → long ≡ cost (other .row) → more ≡ jobs task w (other .row)
       → old ≡ sum i (λ place. cost (getD (rowsOf tasks) place noRow) * jobs task w (getD (rowsOf tasks) place noRow))
       → old + long * more ≡ sum (i + 1) (λ place. cost (getD (rowsOf tasks) place noRow) * jobs task w (getD (rowsOf tasks) place noRow))
   ticks-more w old long more l n o =
-      rw (l, n, o, sum-next i (λ place. cost (getD (rowsOf tasks) place noRow) * jobs task w (getD (rowsOf tasks) place noRow)), row-at tasks i other inside is) refl
+      let here : long * more ≡ cost (getD (rowsOf tasks) i noRow) * jobs task w (getD (rowsOf tasks) i noRow) =
+          rw (l, n) (ap (λ row. cost row * jobs task w row) (sym (row-at tasks i other inside is))) in
+      sum-more i (λ place. cost (getD (rowsOf tasks) place noRow) * jobs task w (getD (rowsOf tasks) place noRow)) old (long * more) here o
 
 pub all-looked-at : (tasks : List Task) (i : ℕ) → i ≤ length tasks → length tasks ≤ i → i ≡ length (rowsOf tasks)
 all-looked-at tasks i most past = omega (arith, length-map tasks (λ (t : Task). t .row))

@@ -20,3 +20,7 @@ lowerAny rows task = any (length rows) (λ place. lower task (getD rows place no
 -- all jobs that go first
 abbrev pub jobsCount : List Row → Row → ℕ → ℕ
 jobsCount rows task w = sum (length rows) (λ place. jobs task w (getD rows place noRow))
+
+-- the row at a place
+abbrev pub rowAt : List Row → ℕ → Row
+rowAt rows place = getD rows place noRow

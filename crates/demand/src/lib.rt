@@ -2,4 +2,5 @@
 pub mod cap;
 pub mod offer;
 pub mod own;
+pub mod reckon;
 pub mod share;

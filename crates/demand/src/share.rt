@@ -18,7 +18,7 @@ pub fn share(offers: &[Offer], core: u8, w: u32, cap: Cap) -> u64
     requires few { ⌜ length (now offers) ≤ 128 ⌝ }
     requires near { ⌜ w ≤ 10000000 ⌝ }
     ensures value { λ ticks. ⌜ ticks ≡ taken (limitOf cap) (phasesIn w (ofCore core (map listed (now (offers .entry))))) ⌝ }
-    ensures bound { λ ticks. ⌜ ticks ≤ 100000000000000000 ⌝ }
+    ensures bound { λ ticks. ⌜ ticks ≤ 51200000000000000 ⌝ }
 {
     let mut left = cap;
     let mut ticks: u64 = 0;
