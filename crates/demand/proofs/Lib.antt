@@ -2,3 +2,4 @@ mod Taking
 mod OwnCore
 mod Keeping
 mod Reckoning
+mod Searching

@@ -3,4 +3,5 @@ pub mod cap;
 pub mod offer;
 pub mod own;
 pub mod reckon;
+pub mod search;
 pub mod share;
