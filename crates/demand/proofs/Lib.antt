@@ -3,3 +3,5 @@ mod OwnCore
 mod Keeping
 mod Reckoning
 mod Searching
+mod Fetching
+mod Telling

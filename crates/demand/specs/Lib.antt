@@ -1,3 +1,4 @@
 pub mod Caps
 pub mod Offers
 pub mod Rows
+pub mod Settled

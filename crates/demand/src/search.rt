@@ -1,12 +1,14 @@
 // The search for one task's outcome.
 ghost use mathlib.Core.Path.{_≡_};
 ghost use mathlib.Core.List.{map};
-ghost use Prim.Native.Nat.{_≤_, _<_};
+ghost use Prim.Native.Nat.{ℕ, _≤_, _<_};
 ghost use lib.ListN.{length};
+ghost use Rattle.std.specs.Of.Vec.{vec-items, vec-cap};
 ghost use Rattle.argument.specs.Plans.{planOf};
 ghost use Rattle.argument.specs.Demand.{Settles};
 ghost use Rattle.demand.specs.Offers.{listed, kept};
 ghost use Rattle.demand.specs.Rows.{rowsOf, rowAt};
+ghost use Rattle.demand.specs.Settled.{AllSettled};
 use crate::offer::Offer;
 use crate::reckon::demand;
 use bus::arbiter::Arbiter;
@@ -33,5 +35,20 @@ pub fn outcome_of<B: Arbiter>(tasks: &[Task], offers: &[Offer], arbiter: &B, pla
             break Outcome::Late(demand(tasks, offers, arbiter, place, deadline));
         }
         w = needed as u32;
+    }
+}
+
+// The outcome of every task, in the tasks' order.
+pub fn tell_all<B: Arbiter>(tasks: &[Task], offers: &[Offer], arbiter: &B, outcomes: &mut Vec<Outcome>)
+    requires few { ⌜ length (now tasks) ≤ 64 ⌝ }
+    requires placed { ⌜ ((u : ℕ) → u < length (now tasks) → rowAt (rowsOf (now tasks)) u .core < B·Arbiter .means .meaning (now arbiter) .ports) ⌝ }
+    requires fetched { ⌜ map listed (now offers) ≡ kept (rowAt (rowsOf (now tasks))) (length (rowsOf (now tasks))) ⌝ }
+    requires room { ⌜ 64 ≤ vec-cap (now outcomes) ⌝ }
+    ensures outcomes { λ _. ⌜ AllSettled (planOf (B·Arbiter .means .meaning (now (arbiter .entry)) .ports) (rowsOf (now (tasks .entry)))) (B·Arbiter .means .meaning (now (arbiter .entry)) .limit) (vec-items (now (outcomes .exit))) ⌝ }
+    ensures room { λ _. ⌜ vec-cap (now (outcomes .exit)) ≡ vec-cap (now (outcomes .entry)) ⌝ }
+{
+    outcomes.clear();
+    for place in 0..tasks.len() {
+        outcomes.push_reserved(outcome_of(tasks, offers, arbiter, place));
     }
 }

@@ -12,12 +12,12 @@ use Rattle.std.proofs.shelf.Tests.{true≢false, leb-false, lt-ltb, and-from, c
 use Rattle.std.proofs.shelf.Ways.{tells}
 use Rattle.std.specs.declared.option.Option.{Option}
 use Rattle.std.specs.declared.option.Option.the-variants.{Some, None}
-use Rattle.std.specs.declared.result.Result.{Result}
-use Rattle.std.specs.declared.result.Result.the-variants.{Ok, Err}
+use Rattle.std.specs.declared.result.Result.the-variants.{Ok}
 use Rattle.std.specs.Options.{isSome}
 use Rattle.tasks.specs.declared.task.Row.{Row}
-use Rattle.tasks.specs.Refusals.{Told, refusal}
-use Rattle.tasks.specs.Rows.{noRow, rowVerdict, bounded, timely}
+use Rattle.tasks.specs.Refusals.{refusal}
+use Rattle.tasks.specs.Rows.{noRow, bounded}
+use Rattle.tasks.proofs.Verdicts.{past, through, accepted-is-bounded}
 use Rattle.settler.specs.Rules.{placeOf, known, clash, clashes, addVerdict, changeVerdict, withRow, isTaskOf, apart, EachATask, AllApart}
 use Rattle.settler.proofs.Lookup.{place-found, place-absent, clash-absent}
 
@@ -27,22 +27,6 @@ apart-after old new c n = grind (arith, tells)
 
 apart-before : (old new : Row) → clash new old ≡ false → (old .id ≡ new .id → ⊥) → apart new old ≡ true
 apart-before old new c n = grind (arith, tells)
-
--- a list of conditions that accepts has passed each of them
-past : (b : Bool) (e : Told) (rest : Result (Unit {0}) Told) → cond b (Err e) rest ≡ Ok tt → (b ≡ false) × (rest ≡ Ok tt)
-past true e rest h = absurd (let z : _≡_ {A = ℕ} 0 1 = cc in omega arith)
-past false e rest h = (refl, h)
-
-through : (b : Bool) (e : Told) (rest : Result (Unit {0}) Told) → cond b rest (Err e) ≡ Ok tt → (b ≡ true) × (rest ≡ Ok tt)
-through true e rest h = (refl, h)
-through false e rest h = absurd (let z : _≡_ {A = ℕ} 0 1 = cc in omega arith)
-
-row-bounded : (row : Row) → rowVerdict row ≡ Ok tt → bounded row ≡ true
-row-bounded row h =
-    let ranked = past (eqb (row .rank) 0) (refusal 10) _ h in
-    let lengths = past (eqb (row .a) 0 || eqb (row .e) 0 || eqb (row .r) 0) (refusal 11) _ (ranked .1) in
-    let times = through (timely row) (refusal 12) (Ok tt) (lengths .1) in
-    let p = ranked .0 in let q = lengths .0 in let t = times .0 in grind (arith, tells)
 
 none-of : (o : Option ℕ) → isSome o ≡ false → o ≡ None
 none-of None h = refl
@@ -70,7 +54,7 @@ addable cores rows row h =
       absent = unknown (row .id) rows (new .0);
       room = leb-false 64 (length rows) (few .0);
       alone = rank .0;
-      sound = row-bounded row (rank .1);
+      sound = accepted-is-bounded row (rank .1);
     }
 
 -- what an accepted change says, of the task's place
@@ -87,7 +71,7 @@ changeable cores rows row h =
     record {
       on-a-core = lt-ltb (row .core) cores (leb-false cores (row .core) (core .0));
       alone = rank .0;
-      sound = row-bounded row (rank .1);
+      sound = accepted-is-bounded row (rank .1);
     }
 
 both : (row : Row) (cores : ℕ) → ltb (row .core) cores ≡ true → bounded row ≡ true → isTaskOf cores row ≡ true
