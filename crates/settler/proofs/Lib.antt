@@ -1,2 +1,3 @@
 mod Lookup
 mod Kept
+mod Told

@@ -1,2 +1,3 @@
 pub mod Rules
 pub mod Contents
+pub mod Settling

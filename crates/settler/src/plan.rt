@@ -5,12 +5,14 @@ ghost use Prim.Native.Nat.{_≤_};
 ghost use Rattle.std.specs.Of.Vec.{vec-len, vec-cap, vec-items};
 ghost use Rattle.tasks.specs.Platforms.{coresFit, favoured};
 ghost use Rattle.settler.specs.Rules.{EachATask, AllApart};
+use demand::work::Work;
 use tasks::outcome::Outcome;
 use tasks::platform::Platform;
 use tasks::task::Row;
 
 pub mod edits;
 mod lookup;
+pub mod settling;
 
 // The most tasks of a plan.
 pub const MOST_TASKS: usize = 64;
@@ -23,6 +25,7 @@ pub struct Plan {
     // one for each row, as long as `settled` says so
     outcomes: Vec<Outcome>,
     settled: bool,
+    work: Work,
     ghost platform_ok: { coresFit (platform .cores) (favoured (platform .line .favours)) ≡ true },
     ghost few: { vec-len rows ≤ 64 },
     ghost tasks_ok: { EachATask (platform .cores) (vec-items rows) },

@@ -12,6 +12,7 @@ use crate::plan::MOST_TASKS;
 use crate::plan::Plan;
 use crate::plan::lookup::has_clash;
 use crate::plan::lookup::place_of;
+use demand::work::Work;
 use std::alloc::Global;
 use tasks::platform::BusLine;
 use tasks::platform::Platform;
@@ -32,11 +33,15 @@ impl Plan {
         let Ok(outcomes) = Vec::with_capacity(heap, MOST_TASKS) else {
             return Err(Refusal::Memory);
         };
+        let Ok(work) = Work::new(heap) else {
+            return Err(Refusal::Memory);
+        };
         Ok(Plan {
             platform,
             rows,
             outcomes,
             settled: false,
+            work,
         })
     }
 
