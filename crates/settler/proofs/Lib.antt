@@ -1,3 +1,1 @@
-mod Lookup
-mod Kept
 mod Told

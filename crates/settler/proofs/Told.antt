@@ -17,9 +17,9 @@ use Rattle.tasks.specs.declared.outcome.Outcome.the-variants.{Late}
 use Rattle.tasks.specs.declared.task.Row.{Row}
 use Rattle.tasks.specs.Refusals.{Told}
 use Rattle.tasks.specs.Rows.{noRow, bounded}
-use Rattle.settler.specs.Rules.{placeOf, EachATask}
+use Rattle.rules.specs.Rules.{placeOf, EachATask}
 use Rattle.settler.specs.Settling.{outcomeAt}
-use Rattle.settler.proofs.Lookup.{place-found}
+use Rattle.rules.proofs.Found.{place-found}
 
 pub told-at : (rows : List Row) (outcomes : List Outcome) (id place : ℕ) (settled : Bool) (read : Outcome) → placeOf id rows ≡ Some place → settled ≡ true
     → place < length outcomes → read ≡ getD outcomes place read

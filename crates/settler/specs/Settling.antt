@@ -16,7 +16,7 @@ use Rattle.tasks.specs.Refusals.{Told, refusal}
 use Rattle.argument.specs.Plans.{planOf}
 use Rattle.demand.specs.Settled.{AllSettled, lateCount}
 use Rattle.settler.specs.Contents.{Content}
-use Rattle.settler.specs.Rules.{placeOf}
+use Rattle.rules.specs.Rules.{placeOf}
 
 -- an arbiter with a port for each core
 abbrev pub settleVerdict : ℕ → ℕ → Result (Unit {0}) Told

@@ -4,18 +4,14 @@ ghost use mathlib.Core.Bool.{true};
 ghost use Prim.Native.Nat.{_≤_};
 ghost use Rattle.std.specs.Of.Vec.{vec-len, vec-cap, vec-items};
 ghost use Rattle.tasks.specs.Platforms.{coresFit, favoured};
-ghost use Rattle.settler.specs.Rules.{EachATask, AllApart};
+ghost use Rattle.rules.specs.Rules.{EachATask, AllApart};
 use demand::work::Work;
 use tasks::outcome::Outcome;
 use tasks::platform::Platform;
 use tasks::task::Row;
 
 pub mod edits;
-mod lookup;
 pub mod settling;
-
-// The most tasks of a plan.
-pub const MOST_TASKS: usize = 64;
 
 // Rows are kept in the order of adding. What its ghost fields say holds of every plan: a plan cannot hold a wrong task.
 #[derive(Drop)]

@@ -5,9 +5,9 @@ ghost use Rattle.std.specs.declared.result.Result.the-variants.{Ok, Err};
 ghost use Rattle.tasks.specs.Refusals.{told, answer};
 ghost use Rattle.settler.specs.Contents.{content};
 ghost use Rattle.settler.specs.Settling.{settleVerdict, SettledTo, windowAnswer};
-use crate::plan::lookup::place_of;
 use crate::plan::Plan;
 use bus::arbiter::Arbiter;
+use rules::lookup::place_of;
 use tasks::outcome::Outcome;
 use tasks::refusal::Refusal;
 

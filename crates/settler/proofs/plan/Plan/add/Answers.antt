@@ -3,8 +3,8 @@ use Prim.Native.Nat.{_≤_}
 use native.Mathlib.Omega.{arith}
 use borrow.Author.Needs.{needs}
 use Rattle.std.specs.Of.Vec.{vec-items, vec-len}
-use Rattle.settler.specs.Rules.{EachATask, AllApart}
-use Rattle.settler.proofs.Kept.{addable, added-each, added-apart}
+use Rattle.rules.specs.Rules.{EachATask, AllApart}
+use Rattle.rules.proofs.Kept.{addable, added-each, added-apart}
 use Rattle.settler.proofs.plan.Plan.add.Needs as need
 
 pub ghost-self : need.ghost-self

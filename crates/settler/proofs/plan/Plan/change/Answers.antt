@@ -3,9 +3,9 @@ use native.Mathlib.Nat.{sub-zero}
 use native.Mathlib.Omega.{arith}
 use borrow.Author.Needs.{needs}
 use Rattle.std.specs.Of.Vec.{vec-items}
-use Rattle.settler.specs.Rules.{EachATask, AllApart}
-use Rattle.settler.proofs.Kept.{changeable, changed-each, changed-apart}
-use Rattle.settler.proofs.Lookup.{place-found}
+use Rattle.rules.specs.Rules.{EachATask, AllApart}
+use Rattle.rules.proofs.Kept.{changeable, changed-each, changed-apart}
+use Rattle.rules.proofs.Found.{place-found}
 use Rattle.settler.proofs.plan.Plan.change.Needs as need
 
 pub index-mut-requires : need.index-mut-requires

@@ -5,9 +5,9 @@ use borrow.Author.Needs.{needs}
 use lib.ListN.{length}
 use Rattle.std.specs.Of.Vec.{vec-items}
 use Rattle.std.specs.declared.option.Option.the-variants.{Some}
-use Rattle.settler.specs.Rules.{placeOf, EachATask, AllApart}
-use Rattle.settler.proofs.Kept.{removed-each, removed-apart}
-use Rattle.settler.proofs.Lookup.{place-found}
+use Rattle.rules.specs.Rules.{placeOf, EachATask, AllApart}
+use Rattle.rules.proofs.Kept.{removed-each, removed-apart}
+use Rattle.rules.proofs.Found.{place-found}
 use Rattle.settler.proofs.plan.Plan.remove.Needs as need
 
 pub remove-requires : need.remove-requires

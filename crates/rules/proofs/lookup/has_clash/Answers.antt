@@ -4,10 +4,10 @@ use native.Mathlib.Omega.{arith}
 use lib.ListN.{getD}
 use Rattle.std.proofs.shelf.Ways.{tells}
 use Rattle.tasks.specs.Rows.{noRow}
-use Rattle.settler.specs.Rules.{clash}
-use Rattle.settler.proofs.Lookup.{clash-here, clash-on, clash-none}
-use Rattle.settler.proofs.plan.lookup.has_clash.Needs as need
-use Rattle.settler.proofs.plan.lookup.has_clash.Needs.{else-row-new·by·then-row-new·then-row-new-2·else-row-new-3, else-row-new·by·then-row-new·else-row-new-2, else-row-new·by·else-row-new}
+use Rattle.rules.specs.Rules.{clash}
+use Rattle.rules.proofs.Found.{clash-here, clash-on, clash-none}
+use Rattle.rules.proofs.lookup.has_clash.Needs as need
+use Rattle.rules.proofs.lookup.has_clash.Needs.{else-row-new·by·then-row-new·then-row-new-2·else-row-new-3, else-row-new·by·then-row-new·else-row-new-2, else-row-new·by·else-row-new}
 
 pub returns-then-row-new-3 : need.returns-then-row-new-3
 returns-then-row-new-3 c =

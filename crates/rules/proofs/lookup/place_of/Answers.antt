@@ -2,8 +2,8 @@ use mathlib.Core.Path.{_≡_, sym, _∙_}
 use borrow.Author.Tests.{eq-eqb}
 use Rattle.std.proofs.shelf.Tests.{ne-eqb}
 use Rattle.tasks.specs.Rows.{noRow}
-use Rattle.settler.proofs.Lookup.{place-here, place-on, place-none}
-use Rattle.settler.proofs.plan.lookup.place_of.Needs as need
+use Rattle.rules.proofs.Found.{place-here, place-on, place-none}
+use Rattle.rules.proofs.lookup.place_of.Needs as need
 
 pub returns-then-row-id : need.returns-then-row-id
 returns-then-row-id c =

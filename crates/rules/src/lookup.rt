@@ -1,6 +1,6 @@
 // Looking through the rows of a plan.
 ghost use mathlib.Core.Path.{_≡_};
-ghost use Rattle.settler.specs.Rules.{placeOf, clashes};
+ghost use Rattle.rules.specs.Rules.{placeOf, clashes};
 use tasks::task::Row;
 
 // Where the task with this id stands.

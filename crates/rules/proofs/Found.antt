@@ -12,7 +12,7 @@ use Rattle.std.proofs.shelf.Tests.{cases-bool, eqb-true, eqb-false, or-parts}
 use Rattle.std.specs.declared.option.Option.the-variants.{Some, None}
 use Rattle.tasks.specs.declared.task.Row.{Row}
 use Rattle.tasks.specs.Rows.{noRow}
-use Rattle.settler.specs.Rules.{placeFrom, clash, clashes}
+use Rattle.rules.specs.Rules.{placeFrom, clash, clashes}
 
 pub place-here : (rows : List Row) (i id : ℕ) (d : Row) → i < length rows → eqb (getD rows i d .id) id ≡ true → placeFrom i id (drop i rows) ≡ Some i
 place-here rows i id d h e = at-drop-more (placeFrom i id) rows i d h ∙ rw e refl

@@ -18,8 +18,8 @@ use Rattle.tasks.specs.declared.task.Row.{Row}
 use Rattle.tasks.specs.Refusals.{refusal}
 use Rattle.tasks.specs.Rows.{noRow, bounded}
 use Rattle.tasks.proofs.Verdicts.{past, through, accepted-is-bounded}
-use Rattle.settler.specs.Rules.{placeOf, known, clash, clashes, addVerdict, changeVerdict, withRow, isTaskOf, apart, EachATask, AllApart}
-use Rattle.settler.proofs.Lookup.{place-found, place-absent, clash-absent}
+use Rattle.rules.specs.Rules.{placeOf, known, clash, clashes, addVerdict, changeVerdict, withRow, isTaskOf, apart, EachATask, AllApart}
+use Rattle.rules.proofs.Found.{place-found, place-absent, clash-absent}
 
 -- two rows that do not clash, with two ids, go together, whichever stands first
 apart-after : (old new : Row) → clash new old ≡ false → (old .id ≡ new .id → ⊥) → apart old new ≡ true
