@@ -200,8 +200,10 @@ test plan limits log never-free = all (log .size) (busy plan log A) && all (log 
 test plan limits log limits-kept = all (log .size) (kept plan limits log A) && all (log .size) (kept plan limits log R)
 
 never-free-is : (plan : Plan) (limits : ℕ → ℕ → Limit) (log : Log) → test plan limits log never-free ≡ true → NeverFree plan log
-never-free-is plan limits log e A k l = busy-is plan log A k (all-true (log .size) (busy plan log A) (and-parts (all (log .size) (busy plan log A)) (all (log .size) (busy plan log R)) e .0) k l)
-never-free-is plan limits log e R k l = busy-is plan log R k (all-true (log .size) (busy plan log R) (and-parts (all (log .size) (busy plan log A)) (all (log .size) (busy plan log R)) e .1) k l)
+never-free-is plan limits log e A k l t a b =
+    busy-is plan log A k (all-true (log .size) (busy plan log A) (and-parts (all (log .size) (busy plan log A)) (all (log .size) (busy plan log R)) e .0) k l) t (omega arith) b
+never-free-is plan limits log e R k l t a b =
+    busy-is plan log R k (all-true (log .size) (busy plan log R) (and-parts (all (log .size) (busy plan log A)) (all (log .size) (busy plan log R)) e .1) k l) t (omega arith) b
 
 limits-kept-is : (plan : Plan) (limits : ℕ → ℕ → Limit) (log : Log) → test plan limits log limits-kept ≡ true → LimitsKept plan limits log
 limits-kept-is plan limits log e A k l = kept-is plan limits log A k (all-true (log .size) (kept plan limits log A) (and-parts (all (log .size) (kept plan limits log A)) (all (log .size) (kept plan limits log R)) e .0) k l)
