@@ -15,7 +15,7 @@ use Rattle.tasks.specs.Rows.{cost}
 use Rattle.argument.specs.Sums.{greatest, ceil}
 use Rattle.tasks.specs.declared.outcome.Outcome.the-variants.{Window, Late}
 use Rattle.argument.specs.Plans.{Plan, level}
-use Rattle.argument.specs.Greedy.{searched}
+use Rattle.argument.specs.Jumps.{searched}
 use Rattle.argument.specs.Theorems.{Demand-never-falls, A-jump-passes-no-covering-number, Jumping-ends-at-the-outcome, The-outcome-is-fixed}
 use Rattle.argument.specs.Demand.{shares, NoneBelow, Settles, jobs, own, turns, offered, longer, share, demand}
 use Rattle.argument.proofs.Sums.{sum-le}

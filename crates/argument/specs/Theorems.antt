@@ -8,7 +8,8 @@ use Rattle.tasks.specs.declared.outcome.Outcome.{Outcome}
 use Rattle.tasks.specs.declared.outcome.Outcome.the-variants.{Window, Late}
 use Rattle.argument.specs.Plans.{Plan, SoundPlan}
 use Rattle.argument.specs.Demand.{share, GreatestTotal, demand, WindowFor, Settles}
-use Rattle.argument.specs.Greedy.{taken, Falling, Offers, searched}
+use Rattle.argument.specs.LongestFirst.{taken, Falling, Offers}
+use Rattle.argument.specs.Jumps.{searched}
 use Rattle.argument.specs.Logs.{Log, Law, one-at-a-time, KeepsTheLaws, KeepsAllBut, EndsWithin, SomeJobEndsBeyond}
 use Rattle.argument.specs.General as General
 

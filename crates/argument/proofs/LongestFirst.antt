@@ -13,7 +13,7 @@ use Rattle.tasks.specs.Limits.{capped}
 use Rattle.argument.specs.Sums.{sum, on, greatest}
 use Rattle.argument.specs.Plans.{Plan}
 use Rattle.argument.specs.Demand.{offered, longer, share}
-use Rattle.argument.specs.Greedy.{less, taken, NoneLonger, Falling, manyLonger}
+use Rattle.argument.specs.LongestFirst.{less, taken, NoneLonger, Falling, manyLonger}
 use Rattle.argument.specs.Theorems.{Longest-first-reaches-the-share}
 use Rattle.argument.proofs.Sums.{sum-zero, sum-eq, sum-add, sum-split}
 use Rattle.argument.proofs.Counts.{on-true, on-false}
