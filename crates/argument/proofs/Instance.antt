@@ -110,7 +110,7 @@ module _ (plan : Plan) (limits : ℕ → ℕ → Limit) (log : B.Log) (sound : S
   possibles = keeps B.possible-moments (others-keep B.possible-moments (λ e. omega arith))
 
   spaced : B.Spaced plan log
-  spaced = keeps B.spacing (others-keep B.spacing (λ e. omega arith))
+  spaced = keeps B.spaced-releases (others-keep B.spaced-releases (λ e. omega arith))
 
   busy : B.NoIdling plan log
   busy = keeps B.no-idling (others-keep B.no-idling (λ e. omega arith))

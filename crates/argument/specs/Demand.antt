@@ -91,8 +91,11 @@ Covers plan limits place w = demand plan limits place w ≤ w
 
 -- a number from 1 to the deadline that covers
 pub record WindowFor (plan : Plan) (limits : ℕ → ℕ → Limit) (place w : ℕ) : Type 0 where
+  -- it is at least 1
   pub some : 1 ≤ w
+  -- it is at most the deadline
   pub in-time : w ≤ plan .row place .deadline
+  -- and it covers
   pub covers : Covers plan limits place w
 
 -- no number from 1 on below the end covers

@@ -31,30 +31,41 @@ One-job-at-a-time-is-not-needed = (plan : Plan) (limits : ℕ → ℕ → Limit)
 
 -- the bound needs a law: some log of a sound plan with windows keeps all the others, and has a job beyond its window
 pub record Needed (law : Law) : Type 0 where
+  -- there are a plan, limits, windows and a log
   pub plan : Plan
   pub limits : ℕ → ℕ → Limit
   pub windows : ℕ → ℕ
   pub log : Log
+  -- the plan is sound
   pub sound : SoundPlan plan
+  -- every task has its window
   pub covered : AllCovered plan limits windows
+  -- the log keeps all laws but this one
   pub keeps : KeepsAllBut law plan limits log
+  -- and some job ends beyond its window
   pub late : SomeJobEndsBeyond windows log
 
 -- a window cannot be trusted while another task is late: a number covers the demand of one task, a task of another core has no such
 -- number, the log keeps all laws, and a job of the first ends beyond its number
 pub record A-window-alone-is-not-enough : Type 0 where
+  -- there are a plan, limits and a log
   pub plan : Plan
   pub limits : ℕ → ℕ → Limit
   pub log : Log
+  -- the plan is sound
   pub sound : SoundPlan plan
+  -- the log keeps all laws
   pub keeps : KeepsTheLaws plan limits log
+  -- one task has a number that covers
   pub place : ℕ
   pub ticks : ℕ
   pub window : WindowFor plan limits place ticks
+  -- another, of another core, is late
   pub other : ℕ
   pub apart : plan .row other .core ≡ plan .row place .core → ⊥
-  pub ticks-other : ℕ
-  pub late : Settles plan limits other (Late ticks-other)
+  pub demanded : ℕ
+  pub late : Settles plan limits other (Late demanded)
+  -- and a job of the first ends beyond its number
   pub job : ℕ
   pub known : job < log .size
   pub of-task : log .job job .task ≡ place
@@ -62,13 +73,18 @@ pub record A-window-alone-is-not-enough : Type 0 where
 
 -- a window can be reached: every task has one, the log keeps all laws, and a job ends at the very last tick of its task's least window
 pub record A-window-can-be-reached : Type 0 where
+  -- there are a plan, limits, windows and a log
   pub plan : Plan
   pub limits : ℕ → ℕ → Limit
   pub windows : ℕ → ℕ
   pub log : Log
+  -- the plan is sound
   pub sound : SoundPlan plan
+  -- each task's window is its outcome
   pub settled : (place : ℕ) → place < plan .size → Settles plan limits place (Window (windows place))
+  -- the log keeps all laws
   pub keeps : KeepsTheLaws plan limits log
+  -- and some job ends just when its window does
   pub job : ℕ
   pub known : job < log .size
   pub at-the-end : log .job job .end ≡ log .job job .release + windows (log .job job .task)
