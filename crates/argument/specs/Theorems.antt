@@ -7,7 +7,7 @@ use Rattle.tasks.specs.declared.limit.Limit.{Limit}
 use Rattle.tasks.specs.declared.outcome.Outcome.{Outcome}
 use Rattle.tasks.specs.declared.outcome.Outcome.the-variants.{Window, Late}
 use Rattle.argument.specs.Plans.{Plan, SoundPlan}
-use Rattle.argument.specs.Demand.{share, GreatestTotal, demand, WindowFor, Settles}
+use Rattle.argument.specs.Demand.{share, GreatestTotal, demand, Covers, WindowFor, Settles}
 use Rattle.argument.specs.LongestFirst.{taken, Falling, Offers}
 use Rattle.argument.specs.Jumps.{searched}
 use Rattle.argument.specs.Logs.{Log, Law, one-at-a-time, KeepsTheLaws, KeepsAllBut, EndsWithin, SomeJobEndsBeyond}
@@ -113,10 +113,10 @@ Longest-first-reaches-the-share = (plan : Plan) (core w : ℕ) (limit : Limit) (
 abbrev pub Demand-never-falls : Type 0
 Demand-never-falls = (plan : Plan) (limits : ℕ → ℕ → Limit) (place v w : ℕ) → v ≤ w → demand plan limits place v ≤ demand plan limits place w
 
--- no number from w on is covered before the demand of w is reached: the search may go on there
+-- a covering number that is not below w is not below the demand of w: the search may go on there
 abbrev pub A-jump-passes-no-covering-number : Type 0
 A-jump-passes-no-covering-number = (plan : Plan) (limits : ℕ → ℕ → Limit) (place w v : ℕ)
-    → w ≤ v → demand plan limits place v ≤ v → demand plan limits place w ≤ v
+    → w ≤ v → Covers plan limits place v → demand plan limits place w ≤ v
 
 -- the search from 1 ends with the outcome of the task, after at most D jumps
 abbrev pub Jumping-ends-at-the-outcome : Type 0
