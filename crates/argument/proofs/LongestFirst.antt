@@ -2,21 +2,22 @@
 use mathlib.Core.Path.{_≡_, refl, sym, ap, _∙_}
 use mathlib.Core.Logic.{inl, inr}
 use mathlib.Core.List.{List, [], _∷_}
-use Prim.Native.Nat.{ℕ, _+_, max, _≤_, _<_}
+use Prim.Native.Nat.{ℕ, zero, suc, _+_, max, _≤_, _<_}
 use native.Mathlib.Omega.{arith}
-use lib.Dec.{ltb}
+use lib.Dec.{ltb, eqb}
 use Rattle.std.proofs.shelf.Sums.{sumBy-cons}
-use Rattle.std.proofs.shelf.Tests.{cases-lt, lt-ltb, le-ltb}
+use Rattle.std.proofs.shelf.Sorted.{sumBy-shuffled}
+use Rattle.std.proofs.shelf.Tests.{cond-both, cases-lt, lt-ltb, le-ltb}
 use Rattle.tasks.specs.declared.limit.Limit.{Limit}
 use Rattle.tasks.specs.declared.limit.Limit.the-variants.{Phases, Unlimited}
 use Rattle.tasks.specs.Limits.{capped}
 use Rattle.argument.specs.Sums.{sum, on}
 use Rattle.argument.specs.Plans.{Plan}
-use Rattle.argument.specs.Demand.{longer, longest, share}
-use Rattle.argument.specs.LongestFirst.{less, taken, NoneLonger, Falling, manyLonger}
-use Rattle.argument.specs.Theorems.{Longest-first-reaches-the-share}
+use Rattle.argument.specs.Demand.{offered, longer, longest, share}
+use Rattle.argument.specs.LongestFirst.{less, taken, NoneLonger, Falling, manyLonger, offersBelow}
+use Rattle.argument.specs.Theorems.{Longest-first-reaches-the-share, The-offered-phases-in-any-order}
 use Rattle.argument.proofs.Sums.{sum-zero, sum-eq, sum-add, sum-split}
-use Rattle.argument.proofs.Counts.{on-true, on-false}
+use Rattle.argument.proofs.Counts.{on-le, on-true, on-false}
 use Rattle.argument.proofs.Shares.{layers, longer-none}
 
 -- the first entry and the rest
@@ -101,3 +102,28 @@ longest-first plan core w limit phases falling offers =
     by-layers phases limit height falling (most-up (most phases) height phases (none-above-most phases) (omega arith))
     ∙ sum-eq height (λ l. capped limit (manyLonger l phases)) (λ l. capped limit (longer plan core w l)) (λ l _. ap (capped limit) (offers l))
     ∙ layers-more plan core w limit (most phases)
+
+-- the list of the offered phases has them
+offers-below : (plan : Plan) (core w l n : ℕ) → manyLonger l (offersBelow plan core w n)
+    ≡ sum n (λ u. on (ltb l (plan .row u .a)) (offered core w (plan .row u)) + on (ltb l (plan .row u .r)) (offered core w (plan .row u)))
+offers-below plan core w l zero = refl
+offers-below plan core w l (suc n) =
+    cond-both (eqb (plan .row n .core) core) ((plan .row n .a, k) ∷ (plan .row n .r, k) ∷ rest) rest
+    (λ phases. manyLonger l phases ≡ sum n each + each n)
+    (λ _. omega (arith, many-cons l (plan .row n .a) k ((plan .row n .r, k) ∷ rest), many-cons l (plan .row n .r) k rest, offers-below plan core w l n))
+    (λ e. let none : k ≡ 0 = on-false (eqb (plan .row n .core) core) _ e in
+    omega (arith, offers-below plan core w l n, none, on-le (ltb l (plan .row n .a)) k, on-le (ltb l (plan .row n .r)) k))
+  where
+    k : ℕ
+    k = offered core w (plan .row n)
+
+    rest : List (ℕ × ℕ)
+    rest = offersBelow plan core w n
+
+    each : ℕ → ℕ
+    each u = on (ltb l (plan .row u .a)) (offered core w (plan .row u)) + on (ltb l (plan .row u .r)) (offered core w (plan .row u))
+
+pub any-order : The-offered-phases-in-any-order
+any-order plan core w phases shuffled l =
+    sumBy-shuffled (λ phase. on (ltb l (phase .0)) (phase .1)) (offersBelow plan core w (plan .size)) phases shuffled
+    ∙ offers-below plan core w l (plan .size)

@@ -1,15 +1,16 @@
 -- The longest phases first, of a list of phases: each entry is a length, and how many phases have it. Assumes nothing.
 use mathlib.Core.Path.{_≡_}
+use mathlib.Core.Bool.{cond}
 use mathlib.Core.List.{List, [], _∷_}
-use Prim.Native.Nat.{ℕ, _+_, _-_, _*_, _≤_}
-use lib.Dec.{ltb}
+use Prim.Native.Nat.{ℕ, zero, suc, _+_, _-_, _*_, _≤_}
+use lib.Dec.{ltb, eqb}
 use Rattle.std.specs.shelf.Lists.{sumBy}
 use Rattle.tasks.specs.declared.limit.Limit.{Limit}
 use Rattle.tasks.specs.declared.limit.Limit.the-variants.{Phases, Unlimited}
 use Rattle.tasks.specs.Limits.{capped}
 use Rattle.argument.specs.Sums.{on}
 use Rattle.argument.specs.Plans.{Plan}
-use Rattle.argument.specs.Demand.{longer}
+use Rattle.argument.specs.Demand.{offered, longer}
 
 -- what a limit still lets through after n phases
 abbrev pub less : Limit → ℕ → Limit
@@ -38,3 +39,11 @@ manyLonger l phases = sumBy (λ phase. on (ltb l (phase .0)) (phase .1)) phases
 -- the list has the phases that the core offers: of each length as many, in whatever order and entries
 abbrev pub Offers : Plan → ℕ → ℕ → List (ℕ × ℕ) → Type 0
 Offers plan core w phases = (l : ℕ) → manyLonger l phases ≡ longer plan core w l
+
+-- the list itself, of the tasks below a place: the A phases and the R phases of each task of the core once, with their number
+abbrev pub offersBelow : Plan → ℕ → ℕ → ℕ → List (ℕ × ℕ)
+offersBelow plan core w zero = []
+offersBelow plan core w (suc place) =
+    cond (eqb (plan .row place .core) core)
+    ((plan .row place .a, offered core w (plan .row place)) ∷ (plan .row place .r, offered core w (plan .row place)) ∷ offersBelow plan core w place)
+    (offersBelow plan core w place)

@@ -3,12 +3,13 @@ use mathlib.Core.Path.{_≡_}
 use mathlib.Core.Bool.{Bool}
 use mathlib.Core.List.{List}
 use Prim.Native.Nat.{ℕ, _+_, _≤_, _<_}
+use Rattle.std.specs.Slices.{Shuffled}
 use Rattle.tasks.specs.declared.limit.Limit.{Limit}
 use Rattle.tasks.specs.declared.outcome.Outcome.{Outcome}
 use Rattle.tasks.specs.declared.outcome.Outcome.the-variants.{Window, Late}
 use Rattle.argument.specs.Plans.{Plan, SoundPlan}
 use Rattle.argument.specs.Demand.{share, GreatestTotal, demand, Covers, WindowFor, Settles}
-use Rattle.argument.specs.LongestFirst.{taken, Falling, Offers}
+use Rattle.argument.specs.LongestFirst.{taken, Falling, Offers, offersBelow}
 use Rattle.argument.specs.Jumps.{searched}
 use Rattle.argument.specs.Logs.{Log, Law, one-at-a-time, KeepsTheLaws, KeepsAllBut, EndsWithin, SomeJobEndsBeyond}
 use Rattle.argument.specs.General as General
@@ -108,6 +109,11 @@ The-share-is-the-greatest-total-of-any-choice = (plan : Plan) (core w : ℕ) (li
 abbrev pub Longest-first-reaches-the-share : Type 0
 Longest-first-reaches-the-share = (plan : Plan) (core w : ℕ) (limit : Limit) (phases : List (ℕ × ℕ))
     → Falling phases → Offers plan core w phases → taken limit phases ≡ share plan core w limit
+
+-- the list of the offered phases, in any order, has the phases that the core offers
+abbrev pub The-offered-phases-in-any-order : Type 0
+The-offered-phases-in-any-order = (plan : Plan) (core w : ℕ) (phases : List (ℕ × ℕ))
+    → Shuffled (offersBelow plan core w (plan .size)) phases → Offers plan core w phases
 
 -- demand never falls as the number of ticks grows
 abbrev pub Demand-never-falls : Type 0
