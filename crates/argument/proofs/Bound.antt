@@ -10,7 +10,7 @@ use Rattle.tasks.specs.declared.limit.Limit.{Limit}
 use Rattle.argument.specs.General.{Task, Plan, Log, taskOf, Lawful, WindowFor}
 use Rattle.argument.specs.Theorems.{Every-job-ends-within-its-window-in-general}
 use Rattle.argument.proofs.Searches.{strong}
-use Rattle.argument.proofs.BusyWindow.{Level, Begins, begins, Blocker, blocker, on-core, left-over}
+use Rattle.argument.proofs.BusyWindow.{Level, Begins, begins, Blocker, blocker-of, on-core, left-over}
 use Rattle.argument.proofs.Cover.{owned, served, tick, cover}
 use Rattle.argument.proofs.OwnTicks.{own-ticks}
 use Rattle.argument.proofs.OtherCores.{remote-ticks}
@@ -26,9 +26,9 @@ module _ (group : ℕ → ℕ → Bool) (limits : ℕ → ℕ → Limit) (plan :
   late j known before over =
       omega (
         arith,
-        cover plan log i t0 blk W covered,
-        own-ticks group limits plan log spacings law i t0 blk W (q .0) (q .1) (q .2) (q .3) (q .4),
-        remote-ticks group limits plan log spacings law i t0 blk W punctual (win .rest) (win .at-most),
+        cover plan log i t0 blocker W covered,
+        own-ticks group limits plan log spacings law i t0 blocker W (q .0) (q .1) (q .2) (q .3) (q .4),
+        remote-ticks group limits plan log spacings law i t0 blocker W punctual (win .rest) (win .at-most),
         win .covers,
       )
     where
@@ -54,18 +54,18 @@ module _ (group : ℕ → ℕ → Bool) (limits : ℕ → ℕ → Limit) (plan :
       B = begun .1
 
       chosen : (x : ℕ) × Blocker plan log i t0 x
-      chosen = blocker plan log i t0
+      chosen = blocker-of plan log i t0
 
-      blk : ℕ
-      blk = chosen .0
+      blocker : ℕ
+      blocker = chosen .0
 
       q : (q : ℕ) × Level plan log i q × (t0 ≤ log .job q .ready) × (log .job q .ready < t0 + W) × (t0 + W < log .job q .end)
       q = left-over plan group limits log law i j level-j t0 B W (win .some) over
 
-      covered : (t : ℕ) → t < W → 1 ≤ owned plan log i t0 blk W (t0 + t) + served plan log i t0 blk W (t0 + t)
+      covered : (t : ℕ) → t < W → 1 ≤ owned plan log i t0 blocker W (t0 + t) + served plan log i t0 blocker W (t0 + t)
       covered t l =
-          let o = on-core plan group limits log law i j level-j t0 B blk (chosen .1) (t0 + t) (omega arith) (omega (arith, B .before)) in
-          tick group limits plan log law i t0 blk W (t0 + t) (omega arith) (omega arith) (o .0) (o .1)
+          let o = on-core plan group limits log law i j level-j t0 B blocker (chosen .1) (t0 + t) (omega arith) (omega (arith, B .before)) in
+          tick group limits plan log law i t0 blocker W (t0 + t) (omega arith) (omega arith) (o .0) (o .1)
 
       punctual : (k : ℕ) → k < log .size → log .job k .release + taskOf plan (log .job k) .reach ≤ t0 → log .job k .end ≤ t0
       punctual k l early =

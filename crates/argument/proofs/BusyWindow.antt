@@ -139,8 +139,8 @@ begins plan log i p =
 pub record Blocker (plan : Plan) (log : Log) (i : Task) (t0 x : ℕ) : Type 0 where
   pub covers : (t : ℕ) → t0 ≤ t → t < horizon plan log i t0 → Lower plan log i x × (log .job x .start < t0) × (t < log .job x .end)
 
-pub blocker : (plan : Plan) (log : Log) (i : Task) (t0 : ℕ) → (x : ℕ) × Blocker plan log i t0 x
-blocker plan log i t0 =
+pub blocker-of : (plan : Plan) (log : Log) (i : Task) (t0 : ℕ) → (x : ℕ) × Blocker plan log i t0 x
+blocker-of plan log i t0 =
     elim (horizon-is plan log i t0) [
       | inl e ↦ (log .size, record { covers = λ t l m. absurd (nothing t l m e) })
       | inr x ↦ (x .0, record { covers = λ t l m. (x .1, x .2, omega (arith, x .3)) })

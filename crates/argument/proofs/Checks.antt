@@ -16,7 +16,7 @@ use Rattle.tasks.specs.Refusals.{Told}
 use Rattle.argument.specs.Sums.{any}
 use Rattle.argument.specs.Plans.{Plan, SoundPlan}
 use Rattle.argument.specs.Demand.{demand, WindowFor}
-use Rattle.argument.specs.Logs.{Job, Log, Turn, A, R, joined, granted, ended, rowOf, coreOf, met, Possible, OnCore, Before, Carried, NeverFree, LimitsKept, Law, possible-moments, spacing, one-at-a-time, no-idling, right-choice, never-free, limits-kept, Keeps, KeepsTheLaws, KeepsAllBut}
+use Rattle.argument.specs.Logs.{Job, Log, Turn, A, R, joined, granted, ended, rowOf, coreOf, met, Possible, OnCore, Before, Carried, NeverFree, LimitsKept, Law, possible-moments, spaced-releases, one-at-a-time, no-idling, right-choice, never-free, limits-kept, Keeps, KeepsTheLaws, KeepsAllBut}
 use Rattle.argument.specs.Theorems.{AllCovered}
 use Rattle.argument.proofs.Sums.{last}
 use Rattle.argument.proofs.Exchange.{any-true}
@@ -192,7 +192,7 @@ kept-is plan limits log turn k e core l ne =
 
 abbrev test : Plan → (ℕ → ℕ → Limit) → Log → Law → Bool
 test plan limits log possible-moments = all (log .size) (λ k. possible plan (log .job k))
-test plan limits log spacing = all (log .size) (λ j. all (log .size) (spaced plan log j))
+test plan limits log spaced-releases = all (log .size) (λ j. all (log .size) (spaced plan log j))
 test plan limits log one-at-a-time = all (log .size) (λ j. all (log .size) (alone plan log j))
 test plan limits log no-idling = all (log .size) (idles-not plan log)
 test plan limits log right-choice = all (log .size) (λ j. all (log .size) (rightly plan log j))
@@ -200,8 +200,10 @@ test plan limits log never-free = all (log .size) (busy plan log A) && all (log 
 test plan limits log limits-kept = all (log .size) (kept plan limits log A) && all (log .size) (kept plan limits log R)
 
 never-free-is : (plan : Plan) (limits : ℕ → ℕ → Limit) (log : Log) → test plan limits log never-free ≡ true → NeverFree plan log
-never-free-is plan limits log e A k l = busy-is plan log A k (all-true (log .size) (busy plan log A) (and-parts (all (log .size) (busy plan log A)) (all (log .size) (busy plan log R)) e .0) k l)
-never-free-is plan limits log e R k l = busy-is plan log R k (all-true (log .size) (busy plan log R) (and-parts (all (log .size) (busy plan log A)) (all (log .size) (busy plan log R)) e .1) k l)
+never-free-is plan limits log e A k l t a b =
+    busy-is plan log A k (all-true (log .size) (busy plan log A) (and-parts (all (log .size) (busy plan log A)) (all (log .size) (busy plan log R)) e .0) k l) t (omega arith) b
+never-free-is plan limits log e R k l t a b =
+    busy-is plan log R k (all-true (log .size) (busy plan log R) (and-parts (all (log .size) (busy plan log A)) (all (log .size) (busy plan log R)) e .1) k l) t (omega arith) b
 
 limits-kept-is : (plan : Plan) (limits : ℕ → ℕ → Limit) (log : Log) → test plan limits log limits-kept ≡ true → LimitsKept plan limits log
 limits-kept-is plan limits log e A k l = kept-is plan limits log A k (all-true (log .size) (kept plan limits log A) (and-parts (all (log .size) (kept plan limits log A)) (all (log .size) (kept plan limits log R)) e .0) k l)
@@ -209,7 +211,7 @@ limits-kept-is plan limits log e R k l = kept-is plan limits log R k (all-true (
 
 passed : (plan : Plan) (limits : ℕ → ℕ → Limit) (log : Log) (law : Law) → test plan limits log law ≡ true → Keeps plan limits log law
 passed plan limits log possible-moments e = λ k l. possible-is plan (log .job k) (all-true (log .size) (λ k. possible plan (log .job k)) e k l)
-passed plan limits log spacing e = λ j k a b ne same. pair-is j k (log .job j .task) (log .job k .task)
+passed plan limits log spaced-releases e = λ j k a b ne same. pair-is j k (log .job j .task) (log .job k .task)
     (log .job j .release + rowOf plan (log .job j) .spacing) (log .job k .release) (log .job k .release + rowOf plan (log .job j) .spacing) (log .job j .release)
     (pairs-true (log .size) (spaced plan log) e j k a b) ne same
 passed plan limits log one-at-a-time e = λ j k a b ne same. pair-is j k (coreOf plan (log .job j)) (coreOf plan (log .job k))
@@ -222,20 +224,20 @@ passed plan limits log limits-kept e = limits-kept-is plan limits log e
 -- ---- all of them, and all but one
 
 abbrev every-law : (Law → Bool) → Bool
-every-law f = f possible-moments && (f spacing && (f one-at-a-time && (f no-idling && (f right-choice && (f never-free && f limits-kept)))))
+every-law f = f possible-moments && (f spaced-releases && (f one-at-a-time && (f no-idling && (f right-choice && (f never-free && f limits-kept)))))
 
 seven : (a b c d e f g : Bool) → (a && (b && (c && (d && (e && (f && g)))))) ≡ true
     → (a ≡ true) × (b ≡ true) × (c ≡ true) × (d ≡ true) × (e ≡ true) × (f ≡ true) × (g ≡ true)
 seven a b c d e f g h = grind arith
 
 every-law-true : (f : Law → Bool) → every-law f ≡ true → (law : Law) → f law ≡ true
-every-law-true f e possible-moments = seven (f possible-moments) (f spacing) (f one-at-a-time) (f no-idling) (f right-choice) (f never-free) (f limits-kept) e .0
-every-law-true f e spacing = seven (f possible-moments) (f spacing) (f one-at-a-time) (f no-idling) (f right-choice) (f never-free) (f limits-kept) e .1
-every-law-true f e one-at-a-time = seven (f possible-moments) (f spacing) (f one-at-a-time) (f no-idling) (f right-choice) (f never-free) (f limits-kept) e .2
-every-law-true f e no-idling = seven (f possible-moments) (f spacing) (f one-at-a-time) (f no-idling) (f right-choice) (f never-free) (f limits-kept) e .3
-every-law-true f e right-choice = seven (f possible-moments) (f spacing) (f one-at-a-time) (f no-idling) (f right-choice) (f never-free) (f limits-kept) e .4
-every-law-true f e never-free = seven (f possible-moments) (f spacing) (f one-at-a-time) (f no-idling) (f right-choice) (f never-free) (f limits-kept) e .5
-every-law-true f e limits-kept = seven (f possible-moments) (f spacing) (f one-at-a-time) (f no-idling) (f right-choice) (f never-free) (f limits-kept) e .6
+every-law-true f e possible-moments = seven (f possible-moments) (f spaced-releases) (f one-at-a-time) (f no-idling) (f right-choice) (f never-free) (f limits-kept) e .0
+every-law-true f e spaced-releases = seven (f possible-moments) (f spaced-releases) (f one-at-a-time) (f no-idling) (f right-choice) (f never-free) (f limits-kept) e .1
+every-law-true f e one-at-a-time = seven (f possible-moments) (f spaced-releases) (f one-at-a-time) (f no-idling) (f right-choice) (f never-free) (f limits-kept) e .2
+every-law-true f e no-idling = seven (f possible-moments) (f spaced-releases) (f one-at-a-time) (f no-idling) (f right-choice) (f never-free) (f limits-kept) e .3
+every-law-true f e right-choice = seven (f possible-moments) (f spaced-releases) (f one-at-a-time) (f no-idling) (f right-choice) (f never-free) (f limits-kept) e .4
+every-law-true f e never-free = seven (f possible-moments) (f spaced-releases) (f one-at-a-time) (f no-idling) (f right-choice) (f never-free) (f limits-kept) e .5
+every-law-true f e limits-kept = seven (f possible-moments) (f spaced-releases) (f one-at-a-time) (f no-idling) (f right-choice) (f never-free) (f limits-kept) e .6
 
 pub keeps-the-laws : (plan : Plan) (limits : ℕ → ℕ → Limit) (log : Log) → every-law (test plan limits log) ≡ true → KeepsTheLaws plan limits log
 keeps-the-laws plan limits log e law = passed plan limits log law (every-law-true (test plan limits log) e law)

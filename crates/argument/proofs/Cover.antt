@@ -20,21 +20,21 @@ inside plan log i t0 w k = level i (taskOf plan (log .job k)) && within t0 (t0 +
 
 -- the blocker, a lower job
 abbrev pub blocks : Plan → Log → Task → ℕ → ℕ → Bool
-blocks plan log i blk k = eqb k blk && lower i (taskOf plan (log .job k))
+blocks plan log i blocker k = eqb k blocker && lower i (taskOf plan (log .job k))
 
 abbrev pub counts : Plan → Log → Task → ℕ → ℕ → ℕ → ℕ → Bool
-counts plan log i t0 blk w k = inside plan log i t0 w k || blocks plan log i blk k
+counts plan log i t0 blocker w k = inside plan log i t0 w k || blocks plan log i blocker k
 
 -- the stay meets a wait of a job that counts
 abbrev pub delays : Plan → Log → Task → ℕ → ℕ → ℕ → Stay → Bool
-delays plan log i t0 blk w s = any (log .size) (λ j. counts plan log i t0 blk w j && any (log .job j .stays) (λ x. meets (log .job j .stay x) s))
+delays plan log i t0 blocker w s = any (log .size) (λ j. counts plan log i t0 blocker w j && any (log .job j .stays) (λ x. meets (log .job j .stay x) s))
 
 -- turn y of job k is of another core, meets the window, and meets a wait of a job that counts
 abbrev pub holds : Plan → Log → Task → ℕ → ℕ → ℕ → ℕ → ℕ → Bool
-holds plan log i t0 blk w k y =
+holds plan log i t0 blocker w k y =
     not (eqb (coreOf plan (log .job k)) (i .core))
     && ((ltb (log .job k .stay y .granted) (t0 + w) && ltb t0 (log .job k .stay y .ended))
-    && delays plan log i t0 blk w (log .job k .stay y))
+    && delays plan log i t0 blocker w (log .job k .stay y))
 
 abbrev pub ownAt : Job → ℕ → ℕ
 ownAt k t = on (within (k .start) (joins k 0) t) 1 + sum (k .stays) (λ x. on (within (k .stay x .granted) (joins k (suc x)) t) 1)
@@ -48,12 +48,12 @@ pub record Inside (plan : Plan) (log : Log) (i : Task) (t0 w k : ℕ) : Type 0 w
   pub from : t0 ≤ log .job k .ready
   pub to : log .job k .ready < t0 + w
 
-pub record Holds (plan : Plan) (log : Log) (i : Task) (t0 blk w k y j x : ℕ) : Type 0 where
+pub record Holds (plan : Plan) (log : Log) (i : Task) (t0 blocker w k y j x : ℕ) : Type 0 where
   pub other : coreOf plan (log .job k) ≡ i .core → ⊥
   pub from : log .job k .stay y .granted < t0 + w
   pub to : t0 < log .job k .stay y .ended
   pub known : j < log .size
-  pub counted : counts plan log i t0 blk w j ≡ true
+  pub counted : counts plan log i t0 blocker w j ≡ true
   pub turn : x < log .job j .stays
   pub met : meets (log .job j .stay x) (log .job k .stay y) ≡ true
 
@@ -63,22 +63,22 @@ inside-parts plan log i t0 w k e = grind arith
 pub inside-from : (plan : Plan) (log : Log) (i : Task) (t0 w k : ℕ) → Inside plan log i t0 w k → inside plan log i t0 w k ≡ true
 inside-from plan log i t0 w k x = grind arith
 
-blocks-from : (plan : Plan) (log : Log) (i : Task) (blk k : ℕ) → k ≡ blk → coreOf plan (log .job k) ≡ i .core
-    → i .rank < taskOf plan (log .job k) .rank → blocks plan log i blk k ≡ true
-blocks-from plan log i blk k e same low = grind arith
+blocks-from : (plan : Plan) (log : Log) (i : Task) (blocker k : ℕ) → k ≡ blocker → coreOf plan (log .job k) ≡ i .core
+    → i .rank < taskOf plan (log .job k) .rank → blocks plan log i blocker k ≡ true
+blocks-from plan log i blocker k e same low = grind arith
 
-pub counts-same : (plan : Plan) (log : Log) (i : Task) (t0 blk w k : ℕ) → counts plan log i t0 blk w k ≡ true → coreOf plan (log .job k) ≡ i .core
-counts-same plan log i t0 blk w k e = grind arith
+pub counts-same : (plan : Plan) (log : Log) (i : Task) (t0 blocker w k : ℕ) → counts plan log i t0 blocker w k ≡ true → coreOf plan (log .job k) ≡ i .core
+counts-same plan log i t0 blocker w k e = grind arith
 
 three : (a b c d : Bool) → (a && ((b && c) && d)) ≡ true → (a ≡ true) × (b ≡ true) × (c ≡ true) × (d ≡ true)
 three a b c d e = grind arith
 
-pub holds-parts : (plan : Plan) (log : Log) (i : Task) (t0 blk w k y : ℕ) → holds plan log i t0 blk w k y ≡ true → (j : ℕ) × (x : ℕ) × Holds plan log i t0 blk w k y j x
-holds-parts plan log i t0 blk w k y e =
+pub holds-parts : (plan : Plan) (log : Log) (i : Task) (t0 blocker w k y : ℕ) → holds plan log i t0 blocker w k y ≡ true → (j : ℕ) × (x : ℕ) × Holds plan log i t0 blocker w k y j x
+holds-parts plan log i t0 blocker w k y e =
     let s = log .job k .stay y in
-    let p = three (not (eqb (coreOf plan (log .job k)) (i .core))) (ltb (s .granted) (t0 + w)) (ltb t0 (s .ended)) (delays plan log i t0 blk w s) e in
-    let f = any-true (log .size) (λ j. counts plan log i t0 blk w j && any (log .job j .stays) (λ x. meets (log .job j .stay x) s)) (p .3) in
-    let q = and-parts (counts plan log i t0 blk w (f .0)) (any (log .job (f .0) .stays) (λ x. meets (log .job (f .0) .stay x) s)) (f .2) in
+    let p = three (not (eqb (coreOf plan (log .job k)) (i .core))) (ltb (s .granted) (t0 + w)) (ltb t0 (s .ended)) (delays plan log i t0 blocker w s) e in
+    let f = any-true (log .size) (λ j. counts plan log i t0 blocker w j && any (log .job j .stays) (λ x. meets (log .job j .stay x) s)) (p .3) in
+    let q = and-parts (counts plan log i t0 blocker w (f .0)) (any (log .job (f .0) .stays) (λ x. meets (log .job (f .0) .stay x) s)) (f .2) in
     let g = any-true (log .job (f .0) .stays) (λ x. meets (log .job (f .0) .stay x) s) (q .1) in (
       f .0,
       g .0,
@@ -96,22 +96,22 @@ holds-parts plan log i t0 blk w k y e =
 four : (a b c d : Bool) → a ≡ true → b ≡ true → c ≡ true → d ≡ true → (a && ((b && c) && d)) ≡ true
 four a b c d p q r s = grind arith
 
-pub holds-from : (plan : Plan) (log : Log) (i : Task) (t0 blk w k y j x : ℕ) → Holds plan log i t0 blk w k y j x → holds plan log i t0 blk w k y ≡ true
-holds-from plan log i t0 blk w k y j x h =
+pub holds-from : (plan : Plan) (log : Log) (i : Task) (t0 blocker w k y j x : ℕ) → Holds plan log i t0 blocker w k y j x → holds plan log i t0 blocker w k y ≡ true
+holds-from plan log i t0 blocker w k y j x h =
     let s = log .job k .stay y in
-    four (not (eqb (coreOf plan (log .job k)) (i .core))) (ltb (s .granted) (t0 + w)) (ltb t0 (s .ended)) (delays plan log i t0 blk w s)
+    four (not (eqb (coreOf plan (log .job k)) (i .core))) (ltb (s .granted) (t0 + w)) (ltb t0 (s .ended)) (delays plan log i t0 blocker w s)
     (not-from-false (eqb (coreOf plan (log .job k)) (i .core)) (ne-eqb (coreOf plan (log .job k)) (i .core) (h .other)))
     (lt-ltb (s .granted) (t0 + w) (h .from)) (lt-ltb t0 (s .ended) (h .to))
-    (any-from (log .size) (λ j. counts plan log i t0 blk w j && any (log .job j .stays) (λ x. meets (log .job j .stay x) s)) j (h .known)
-    (and-from (counts plan log i t0 blk w j) (any (log .job j .stays) (λ x. meets (log .job j .stay x) s)) (h .counted)
+    (any-from (log .size) (λ j. counts plan log i t0 blocker w j && any (log .job j .stays) (λ x. meets (log .job j .stay x) s)) j (h .known)
+    (and-from (counts plan log i t0 blocker w j) (any (log .job j .stays) (λ x. meets (log .job j .stay x) s)) (h .counted)
     (any-from (log .job j .stays) (λ x. meets (log .job j .stay x) s) x (h .turn) (h .met))))
 
 -- what counts at the tick t: own ticks, and ticks of services
 abbrev pub owned : Plan → Log → Task → ℕ → ℕ → ℕ → ℕ → ℕ
-owned plan log i t0 blk w t = sum (log .size) (λ k. on (counts plan log i t0 blk w k) (ownAt (log .job k) t))
+owned plan log i t0 blocker w t = sum (log .size) (λ k. on (counts plan log i t0 blocker w k) (ownAt (log .job k) t))
 
 abbrev pub served : Plan → Log → Task → ℕ → ℕ → ℕ → ℕ → ℕ
-served plan log i t0 blk w t = sum (log .size) (λ k. sum (log .job k .stays) (λ y. on (holds plan log i t0 blk w k y) (serviceAt (log .job k .stay y) t)))
+served plan log i t0 blocker w t = sum (log .size) (λ k. sum (log .job k .stays) (λ y. on (holds plan log i t0 blocker w k y) (serviceAt (log .job k .stay y) t)))
 
 pub joins-turn : (k : Job) (x : ℕ) → x < k .stays → joins k x ≡ k .stay x .joined
 joins-turn k x l = cond-true (ltb x (k .stays)) (k .stay x .joined) (k .end) (lt-ltb x (k .stays) l)
@@ -147,24 +147,24 @@ up-to k t a (suc m) l b =
 pub own-or-waits : (k : Job) (t : ℕ) → k .start ≤ t → t < k .end → (1 ≤ ownAt k t) ⊎ ((x : ℕ) × Waits k t x)
 own-or-waits k t a b = up-to k t a (k .stays) (omega arith) (omega (arith, joins-end k))
 
-module _ (group : ℕ → ℕ → Bool) (limits : ℕ → ℕ → Limit) (plan : Plan) (log : Log) (law : Lawful group limits plan log) (i : Task) (t0 blk w : ℕ) where
+module _ (group : ℕ → ℕ → Bool) (limits : ℕ → ℕ → Limit) (plan : Plan) (log : Log) (law : Lawful group limits plan log) (i : Task) (t0 blocker w : ℕ) where
   -- who is on the core at a tick of the window counts
-  counted : (t : ℕ) → t0 ≤ t → t < t0 + w → (j : ℕ) → Occupies plan log i t0 blk t j → counts plan log i t0 blk w j ≡ true
+  counted : (t : ℕ) → t0 ≤ t → t < t0 + w → (j : ℕ) → Occupies plan log i t0 blocker t j → counts plan log i t0 blocker w j ≡ true
   counted t l m j o =
       elim (o .kind) [
-        | inl h ↦ or-left (inside plan log i t0 w j) (blocks plan log i blk j)
+        | inl h ↦ or-left (inside plan log i t0 w j) (blocks plan log i blocker j)
             (inside-from plan log i t0 w j (record { same = o .same; high = h .0; from = h .1; to = omega (arith, law .possible j (o .known) .starts, o .from) }))
-        | inr h ↦ or-right (inside plan log i t0 w j) (blocks plan log i blk j)
-            (blocks-from plan log i blk j (h .1) (o .same) (h .0))
+        | inr h ↦ or-right (inside plan log i t0 w j) (blocks plan log i blocker j)
+            (blocks-from plan log i blocker j (h .1) (o .same) (h .0))
       ]
 
-  waiting : (t : ℕ) → t0 ≤ t → t < t0 + w → (j : ℕ) → j < log .size → counts plan log i t0 blk w j ≡ true → (x : ℕ) → Waits (log .job j) t x → 1 ≤ served plan log i t0 blk w t
+  waiting : (t : ℕ) → t0 ≤ t → t < t0 + w → (j : ℕ) → j < log .size → counts plan log i t0 blocker w j ≡ true → (x : ℕ) → Waits (log .job j) t x → 1 ≤ served plan log i t0 blocker w t
   waiting t l m j known c x v =
       omega (
         arith,
-        sum-point (log .size) (λ k. sum (log .job k .stays) (λ y. on (holds plan log i t0 blk w k y) (serviceAt (log .job k .stay y) t))) k (z .known),
-        sum-point (log .job k .stays) (λ y. on (holds plan log i t0 blk w k y) (serviceAt (log .job k .stay y) t)) y (z .turn),
-        on-true (holds plan log i t0 blk w k y) (serviceAt s t) held,
+        sum-point (log .size) (λ k. sum (log .job k .stays) (λ y. on (holds plan log i t0 blocker w k y) (serviceAt (log .job k .stay y) t))) k (z .known),
+        sum-point (log .job k .stays) (λ y. on (holds plan log i t0 blocker w k y) (serviceAt (log .job k .stay y) t)) y (z .turn),
+        on-true (holds plan log i t0 blocker w k y) (serviceAt s t) held,
         on-true (within (s .granted) (s .ended) t) 1 (within-from (s .granted) (s .ended) t (z .from) (z .to)),
       )
     where
@@ -187,9 +187,9 @@ module _ (group : ℕ → ℕ → Bool) (limits : ℕ → ℕ → Limit) (plan :
       met = and-from (ltb (s .granted) (log .job j .stay x .granted)) (ltb (log .job j .stay x .joined) (s .ended))
           (lt-ltb (s .granted) (log .job j .stay x .granted) (omega (arith, z .from, v .2))) (lt-ltb (log .job j .stay x .joined) (s .ended) (omega (arith, z .to, v .1)))
 
-      held : holds plan log i t0 blk w k y ≡ true
-      held = holds-from plan log i t0 blk w k y j x (record {
-        other = λ e. z .other (e ∙ sym (counts-same plan log i t0 blk w j c));
+      held : holds plan log i t0 blocker w k y ≡ true
+      held = holds-from plan log i t0 blocker w k y j x (record {
+        other = λ e. z .other (e ∙ sym (counts-same plan log i t0 blocker w j c));
         from = omega (arith, z .from);
         to = omega (arith, z .to);
         known = known;
@@ -198,11 +198,11 @@ module _ (group : ℕ → ℕ → Bool) (limits : ℕ → ℕ → Limit) (plan :
         met = met;
       })
 
-  pub tick : (t : ℕ) → t0 ≤ t → t < t0 + w → (j : ℕ) → Occupies plan log i t0 blk t j → 1 ≤ owned plan log i t0 blk w t + served plan log i t0 blk w t
+  pub tick : (t : ℕ) → t0 ≤ t → t < t0 + w → (j : ℕ) → Occupies plan log i t0 blocker t j → 1 ≤ owned plan log i t0 blocker w t + served plan log i t0 blocker w t
   tick t l m j o =
       let c = counted t l m j o in
       elim (own-or-waits (log .job j) t (o .from) (o .to)) [
-        | inl h ↦ omega (arith, sum-point (log .size) (λ k. on (counts plan log i t0 blk w k) (ownAt (log .job k) t)) j (o .known), on-true (counts plan log i t0 blk w j) (ownAt (log .job j) t) c)
+        | inl h ↦ omega (arith, sum-point (log .size) (λ k. on (counts plan log i t0 blocker w k) (ownAt (log .job k) t)) j (o .known), on-true (counts plan log i t0 blocker w j) (ownAt (log .job j) t) c)
         | inr v ↦ omega (arith, waiting t l m j (o .known) c (v .0) (v .1))
       ]
 
@@ -226,15 +226,15 @@ ownIn-le t0 w k = omega (
 abbrev pub len : Stay → ℕ
 len s = s .ended - s .granted
 
-pub cover : (plan : Plan) (log : Log) (i : Task) (t0 blk w : ℕ) → ((t : ℕ) → t < w → 1 ≤ owned plan log i t0 blk w (t0 + t) + served plan log i t0 blk w (t0 + t))
-    → w ≤ sum (log .size) (λ k. on (counts plan log i t0 blk w k) (ownIn t0 w (log .job k)))
-    + sum (log .size) (λ k. sum (log .job k .stays) (λ y. on (holds plan log i t0 blk w k y) (len (log .job k .stay y))))
-cover plan log i t0 blk w each =
+pub cover : (plan : Plan) (log : Log) (i : Task) (t0 blocker w : ℕ) → ((t : ℕ) → t < w → 1 ≤ owned plan log i t0 blocker w (t0 + t) + served plan log i t0 blocker w (t0 + t))
+    → w ≤ sum (log .size) (λ k. on (counts plan log i t0 blocker w k) (ownIn t0 w (log .job k)))
+    + sum (log .size) (λ k. sum (log .job k .stays) (λ y. on (holds plan log i t0 blocker w k y) (len (log .job k .stay y))))
+cover plan log i t0 blocker w each =
     omega (
       arith,
       sum-same w 1,
-      sum-le w (λ _. 1) (λ t. owned plan log i t0 blk w (t0 + t) + served plan log i t0 blk w (t0 + t)) each,
-      sum-add w (λ t. owned plan log i t0 blk w (t0 + t)) (λ t. served plan log i t0 blk w (t0 + t)),
+      sum-le w (λ _. 1) (λ t. owned plan log i t0 blocker w (t0 + t) + served plan log i t0 blocker w (t0 + t)) each,
+      sum-add w (λ t. owned plan log i t0 blocker w (t0 + t)) (λ t. served plan log i t0 blocker w (t0 + t)),
       sum-swap w n (λ t k. on (c k) (ownAt (log .job k) (t0 + t))),
       sum-eq n (λ k. sum w (λ t. on (c k) (ownAt (log .job k) (t0 + t)))) (λ k. on (c k) (ownIn t0 w (log .job k))) (λ k l. sum-on w (c k) (λ t. ownAt (log .job k) (t0 + t))),
       sum-swap w n (λ t k. sum (log .job k .stays) (λ y. on (h k y) (serviceAt (log .job k .stay y) (t0 + t)))),
@@ -246,10 +246,10 @@ cover plan log i t0 blk w each =
     n = log .size
 
     c : ℕ → Bool
-    c k = counts plan log i t0 blk w k
+    c k = counts plan log i t0 blocker w k
 
     h : ℕ → ℕ → Bool
-    h k y = holds plan log i t0 blk w k y
+    h k y = holds plan log i t0 blocker w k y
 
     service : (k : ℕ) → sum w (λ t. sum (log .job k .stays) (λ y. on (h k y) (serviceAt (log .job k .stay y) (t0 + t)))) ≤ sum (log .job k .stays) (λ y. on (h k y) (len (log .job k .stay y)))
     service k = omega (

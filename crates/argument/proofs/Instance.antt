@@ -110,7 +110,7 @@ module _ (plan : Plan) (limits : ℕ → ℕ → Limit) (log : B.Log) (sound : S
   possibles = keeps B.possible-moments (others-keep B.possible-moments (λ e. omega arith))
 
   spaced : B.Spaced plan log
-  spaced = keeps B.spacing (others-keep B.spacing (λ e. omega arith))
+  spaced = keeps B.spaced-releases (others-keep B.spaced-releases (λ e. omega arith))
 
   busy : B.NoIdling plan log
   busy = keeps B.no-idling (others-keep B.no-idling (λ e. omega arith))
@@ -207,8 +207,8 @@ module _ (plan : Plan) (limits : ℕ → ℕ → Limit) (sound : SoundPlan plan)
     choice : (b : ℕ) → (b ≡ i .core → ⊥) → D.Choice plan b w (times (D.turns plan i w) (limits (i .core) b)) (part b 0) (part b 1)
     unfolding part
     choice b ne = record {
-      some-a = λ u l. on-mono (eqb (plan .row u .core) b) (X u 0) (ceil (w + plan .row u .deadline) (plan .row u .spacing)) (λ _. at-most u l 0 (omega arith));
-      some-r = λ u l. on-mono (eqb (plan .row u .core) b) (X u 1) (ceil (w + plan .row u .deadline) (plan .row u .spacing)) (λ _. at-most u l 1 (omega arith));
+      some-a = λ u l. on-mono (eqb (plan .row u .core) b) _ _ (λ _. at-most u l 0 (omega arith));
+      some-r = λ u l. on-mono (eqb (plan .row u .core) b) _ _ (λ _. at-most u l 1 (omega arith));
       few = subst (λ z. Within (times z (limits (i .core) b)) (sum (plan .size) (λ u. part b 0 u + part b 1 u))) turns-same
           (within-less (times (G.turns (toPlan plan) (toTask i) w) (limits (i .core) b)) (sum (plan .size) (λ u. part b 0 u + part b 1 u))
           (sum (plan .size) (λ u. on (G.others single (i .core) b (plan .row u .core)) (sum 2 (X u)))) (ch .few b)

@@ -2,7 +2,7 @@
 use mathlib.Core.Path.{refl, sym, ap, _∙_}
 use mathlib.Core.Logic.{inl, inr}
 use mathlib.Core.Bool.{cond, not}
-use Prim.Native.Nat.{ℕ, zero, suc, _+_, _-_, max, _≤_, _<_}
+use Prim.Native.Nat.{ℕ, zero, suc, _+_, _-_, _≤_, _<_}
 use native.Mathlib.Omega.{arith}
 use native.Mathlib.Nat.{mul-le-mul-left, mul-le-mul-right, div-zero, div-mul-le-self, le-div-iff-mul-le}
 use lib.Dec.{leb, ltb, eqb}
@@ -12,12 +12,12 @@ use Rattle.tasks.specs.declared.limit.Limit.the-variants.{Phases, Unlimited}
 use Rattle.tasks.specs.Limits.{times, capped}
 use Rattle.tasks.specs.declared.task.Row.{Row}
 use Rattle.tasks.specs.Rows.{cost}
-use Rattle.argument.specs.Sums.{greatest, ceil}
+use Rattle.argument.specs.Sums.{ceil}
 use Rattle.tasks.specs.declared.outcome.Outcome.the-variants.{Window, Late}
 use Rattle.argument.specs.Plans.{Plan, level}
-use Rattle.argument.specs.Greedy.{searched}
+use Rattle.argument.specs.Jumps.{searched}
 use Rattle.argument.specs.Theorems.{Demand-never-falls, A-jump-passes-no-covering-number, Jumping-ends-at-the-outcome, The-outcome-is-fixed}
-use Rattle.argument.specs.Demand.{shares, NoneBelow, Settles, jobs, own, turns, offered, longer, share, demand}
+use Rattle.argument.specs.Demand.{shares, NoneBelow, Settles, jobs, own, turns, offered, longer, longest, share, demand}
 use Rattle.argument.proofs.Sums.{sum-le}
 use Rattle.argument.proofs.Exchange.{on-mono}
 
@@ -50,7 +50,7 @@ capped-mono (Phases n) k m x y h l = omega (arith, mul-le-mul-right n h)
 capped-mono Unlimited k m x y h l = l
 
 share-mono : (plan : Plan) (limit : Limit) (core k m v w : ℕ) → k ≤ m → v ≤ w → share plan core v (times k limit) ≤ share plan core w (times m limit)
-share-mono plan limit core k m v w h l = sum-le (greatest (plan .size) (λ u. max (plan .row u .a) (plan .row u .r))) _ _
+share-mono plan limit core k m v w h l = sum-le (longest plan) _ _
     (λ x _. capped-mono limit k m _ _ h (longer-mono plan core v w _ l))
 
 shares-mono : (plan : Plan) (limits : ℕ → ℕ → Limit) (task : Row) (v w : ℕ) → v ≤ w → shares plan limits task v ≤ shares plan limits task w

@@ -3,7 +3,7 @@ pub mod Sums
 pub mod Counts
 pub mod Exchange
 pub mod Reach
-pub mod Greedy
+pub mod LongestFirst
 pub mod Least
 pub mod Instance
 pub mod Checks

@@ -74,7 +74,7 @@ truncate (suc N) m p f l =
     whole b = omega arith
 
 module _ (group : ℕ → ℕ → Bool) (limits : ℕ → ℕ → Limit) (plan : Plan) (log : Log) (spacings : (u : ℕ) → u < plan .size → 1 ≤ plan .task u .spacing)
-    (law : Lawful group limits plan log) (i : Task) (t0 blk w : ℕ)
+    (law : Lawful group limits plan log) (i : Task) (t0 blocker w : ℕ)
     (punctual : (k : ℕ) → k < log .size → log .job k .release + taskOf plan (log .job k) .reach ≤ t0 → log .job k .end ≤ t0) where
   -- a turn lies in its job
   joins-after : (k : ℕ) → k < log .size → (x : ℕ) → x ≤ log .job k .stays → log .job k .start ≤ joins (log .job k) x
@@ -104,10 +104,10 @@ module _ (group : ℕ → ℕ → Bool) (limits : ℕ → ℕ → Limit) (plan :
       )
 
   -- whose: the releases lie in a stretch of w + reach
-  whose : (k : ℕ) → k < log .size → (x : ℕ) → x < log .job k .stays → holds plan log i t0 blk w k x ≡ true
+  whose : (k : ℕ) → k < log .size → (x : ℕ) → x < log .job k .stays → holds plan log i t0 blocker w k x ≡ true
       → (t0 ≤ log .job k .release + taskOf plan (log .job k) .reach) × (log .job k .release + taskOf plan (log .job k) .reach < t0 + (w + taskOf plan (log .job k) .reach))
   whose k l x m e =
-      let h = holds-parts plan log i t0 blk w k x e .2 in
+      let h = holds-parts plan log i t0 blocker w k x e .2 in
       let o = lies-in k l x m in (
         elim (cases-lt (log .job k .release + taskOf plan (log .job k) .reach) t0) [
           | inl b ↦ let late = punctual k l (omega arith) in omega (arith, h .to, o .0)
@@ -118,7 +118,7 @@ module _ (group : ℕ → ℕ → Bool) (limits : ℕ → ℕ → Limit) (plan :
 
   -- turn x of job k is there, and holds the core up
   abbrev B : ℕ → ℕ → Bool
-  B k x = ltb x (log .job k .stays) && holds plan log i t0 blk w k x
+  B k x = ltb x (log .job k .stays) && holds plan log i t0 blocker w k x
 
   abbrev chosen : ℕ → ℕ → ℕ
   chosen u x = sum (log .size) (λ k. on (eqb (log .job k .task) u && B k x) 1)
@@ -134,10 +134,10 @@ module _ (group : ℕ → ℕ → Bool) (limits : ℕ → ℕ → Limit) (plan :
         | inl n ↦ omega (arith, sum-zero (log .size) (λ k. on (eqb (log .job k .task) u && B k x) 1) (none n))
       ]
     where
-      parts : (k : ℕ) → (eqb (log .job k .task) u && B k x) ≡ true → (log .job k .task ≡ u) × (x < log .job k .stays) × (holds plan log i t0 blk w k x ≡ true)
+      parts : (k : ℕ) → (eqb (log .job k .task) u && B k x) ≡ true → (log .job k .task ≡ u) × (x < log .job k .stays) × (holds plan log i t0 blocker w k x ≡ true)
       parts k e =
           let p = and-parts (eqb (log .job k .task) u) (B k x) e in
-          let q = and-parts (ltb x (log .job k .stays)) (holds plan log i t0 blk w k x) (p .1) in
+          let q = and-parts (ltb x (log .job k .stays)) (holds plan log i t0 blocker w k x) (p .1) in
           (eqb-true (log .job k .task) u (p .0), ltb-true x (log .job k .stays) (q .0), q .1)
 
       facts : (k : ℕ) → k < log .size → (eqb (log .job k .task) u && B k x) ≡ true
@@ -154,19 +154,19 @@ module _ (group : ℕ → ℕ → Bool) (limits : ℕ → ℕ → Limit) (plan :
             | inr no′ ↦ on-false (eqb (log .job k .task) u && B k x) 1 no′
             | inl e ↦
                 let p = parts k e in
-                absurd (holds-parts plan log i t0 blk w k x (p .2) .2 .other (ap (λ v. plan .task v .core) (p .0) ∙ eqb-true (plan .task u .core) (i .core) n))
+                absurd (holds-parts plan log i t0 blocker w k x (p .2) .2 .other (ap (λ v. plan .task v .core) (p .0) ∙ eqb-true (plan .task u .core) (i .core) n))
           ]
 
   fewer : (k : ℕ) → k < log .size → log .job k .stays ≤ plan .task (log .job k .task) .stays
   fewer k l = law .possible k l .few
 
   -- a sum over the turns that hold, by tasks and turns
-  by-task : (φ : ℕ → ℕ → ℕ) → sum (log .size) (λ k. sum (log .job k .stays) (λ x. on (holds plan log i t0 blk w k x) (φ (log .job k .task) x)))
+  by-task : (φ : ℕ → ℕ → ℕ) → sum (log .size) (λ k. sum (log .job k .stays) (λ x. on (holds plan log i t0 blocker w k x) (φ (log .job k .task) x)))
       ≡ sum (plan .size) (λ u. sum (plan .task u .stays) (λ x. φ u x * chosen u x))
   by-task φ =
-      sum-eq (log .size) (λ k. sum (log .job k .stays) (λ x. on (holds plan log i t0 blk w k x) (φ (log .job k .task) x)))
+      sum-eq (log .size) (λ k. sum (log .job k .stays) (λ x. on (holds plan log i t0 blocker w k x) (φ (log .job k .task) x)))
       (λ k. sum (plan .task (log .job k .task) .stays) (λ x. on (B k x) (φ (log .job k .task) x)))
-      (λ k l. sym (truncate (plan .task (log .job k .task) .stays) (log .job k .stays) (holds plan log i t0 blk w k) (φ (log .job k .task)) (fewer k l)))
+      (λ k l. sym (truncate (plan .task (log .job k .task) .stays) (log .job k .stays) (holds plan log i t0 blocker w k) (φ (log .job k .task)) (fewer k l)))
       ∙ regroup (log .size) (plan .size) (λ k. log .job k .task) (λ u. plan .task u .stays) B φ (law .known)
 
   module _ (g : ℕ) where
@@ -181,11 +181,11 @@ module _ (group : ℕ → ℕ → Bool) (limits : ℕ → ℕ → Limit) (plan :
     hit j k y = sum (log .job j .stays) (λ x. on (meets (log .job j .stay x) (log .job k .stay y)) 1)
 
     abbrev c : ℕ → Bool
-    c j = counts plan log i t0 blk w j
+    c j = counts plan log i t0 blocker w j
 
-    union : (k y : ℕ) → holds plan log i t0 blk w k y ≡ true → 1 ≤ sum (log .size) (λ j. on (c j) (hit j k y))
+    union : (k y : ℕ) → holds plan log i t0 blocker w k y ≡ true → 1 ≤ sum (log .size) (λ j. on (c j) (hit j k y))
     union k y e =
-        let f = holds-parts plan log i t0 blk w k y e in
+        let f = holds-parts plan log i t0 blocker w k y e in
         let j = f .0 in
         let x = f .1 in
         let h = f .2 in
@@ -198,12 +198,12 @@ module _ (group : ℕ → ℕ → Bool) (limits : ℕ → ℕ → Limit) (plan :
         )
 
     -- of one k: over the jobs that count
-    one-k : (k : ℕ) → sum (log .job k .stays) (λ y. on (holds plan log i t0 blk w k y) (on (o k) 1))
+    one-k : (k : ℕ) → sum (log .job k .stays) (λ y. on (holds plan log i t0 blocker w k y) (on (o k) 1))
         ≤ sum (log .size) (λ j. on (c j) (on (o k) (sum (log .job j .stays) (λ x. hits j x k))))
     one-k k =
         omega (
           arith,
-          sum-le S (λ y. on (holds plan log i t0 blk w k y) (on (o k) 1)) (λ y. on (o k) (U y)) each,
+          sum-le S (λ y. on (holds plan log i t0 blocker w k y) (on (o k) 1)) (λ y. on (o k) (U y)) each,
           sum-on S (o k) U,
           ap (on (o k)) turned,
           sum-on (log .size) (o k) (λ j. on (c j) (sum (log .job j .stays) (λ x. hits j x k))),
@@ -217,11 +217,11 @@ module _ (group : ℕ → ℕ → Bool) (limits : ℕ → ℕ → Limit) (plan :
         U : ℕ → ℕ
         U y = sum (log .size) (λ j. on (c j) (hit j k y))
 
-        each : (y : ℕ) → y < S → on (holds plan log i t0 blk w k y) (on (o k) 1) ≤ on (o k) (U y)
+        each : (y : ℕ) → y < S → on (holds plan log i t0 blocker w k y) (on (o k) 1) ≤ on (o k) (U y)
         each y _ =
-            elim (cases-bool (holds plan log i t0 blk w k y)) [
-              | inr n ↦ omega (arith, on-false (holds plan log i t0 blk w k y) (on (o k) 1) n)
-              | inl e ↦ omega (arith, on-le (holds plan log i t0 blk w k y) (on (o k) 1), on-mono (o k) 1 (U y) (λ _. union k y e))
+            elim (cases-bool (holds plan log i t0 blocker w k y)) [
+              | inr n ↦ omega (arith, on-false (holds plan log i t0 blocker w k y) (on (o k) 1) n)
+              | inl e ↦ omega (arith, on-le (holds plan log i t0 blocker w k y) (on (o k) 1), on-mono (o k) 1 (U y) (λ _. union k y e))
             ]
 
         turned : sum S U ≡ sum (log .size) (λ j. on (c j) (sum (log .job j .stays) (λ x. hits j x k)))
@@ -239,15 +239,15 @@ module _ (group : ℕ → ℕ → Bool) (limits : ℕ → ℕ → Limit) (plan :
         ∙ sum-swap (log .size) (log .job j .stays) (λ k x. on (o k) (hits j x k))
 
     at-most : (l : ℕ) → ((j : ℕ) → j < log .size → c j ≡ true → (x : ℕ) → x < log .job j .stays → met group plan log (i .core) (log .job j .stay x) g ≤ l)
-        → sum (log .size) (λ k. sum (log .job k .stays) (λ y. on (holds plan log i t0 blk w k y) (on (o k) 1))) ≤ turns plan i w * l
+        → sum (log .size) (λ k. sum (log .job k .stays) (λ y. on (holds plan log i t0 blocker w k y) (on (o k) 1))) ≤ turns plan i w * l
     at-most l most =
         omega (
           arith,
-          sum-le n (λ k. sum (log .job k .stays) (λ y. on (holds plan log i t0 blk w k y) (on (o k) 1))) (λ k. sum n (λ j. on (c j) (V j k))) (λ k _. one-k k),
+          sum-le n (λ k. sum (log .job k .stays) (λ y. on (holds plan log i t0 blocker w k y) (on (o k) 1))) (λ k. sum n (λ j. on (c j) (V j k))) (λ k _. one-k k),
           sum-swap n n (λ k j. on (c j) (V j k)),
           sum-le n (λ j. sum n (λ k. on (c j) (V j k))) (λ j. l * on (c j) (log .job j .stays)) job,
           sum-mul n l (λ j. on (c j) (log .job j .stays)),
-          mul-le-mul-left l (counts-turns group limits plan log spacings law i t0 blk w),
+          mul-le-mul-left l (counts-turns group limits plan log spacings law i t0 blocker w),
         )
       where
         n : ℕ
@@ -270,20 +270,20 @@ module _ (group : ℕ → ℕ → Bool) (limits : ℕ → ℕ → Limit) (plan :
               )),
         )
 
-    few : Within (times (turns plan i w) (limits (i .core) g)) (sum (log .size) (λ k. sum (log .job k .stays) (λ y. on (holds plan log i t0 blk w k y) (on (o k) 1))))
+    few : Within (times (turns plan i w) (limits (i .core) g)) (sum (log .size) (λ k. sum (log .job k .stays) (λ y. on (holds plan log i t0 blocker w k y) (on (o k) 1))))
     few = go (limits (i .core) g) limit
       where
         limit : (j : ℕ) → j < log .size → c j ≡ true → (x : ℕ) → x < log .job j .stays → Within (limits (i .core) g) (met group plan log (i .core) (log .job j .stay x) g)
-        limit j l e x m = subst (λ q. Within (limits q g) (met group plan log q (log .job j .stay x) g)) (counts-same plan log i t0 blk w j e) (law .limited j l x m g)
+        limit j l e x m = subst (λ q. Within (limits q g) (met group plan log q (log .job j .stay x) g)) (counts-same plan log i t0 blocker w j e) (law .limited j l x m g)
 
         go : (b : Limit) → ((j : ℕ) → j < log .size → c j ≡ true → (x : ℕ) → x < log .job j .stays → Within b (met group plan log (i .core) (log .job j .stay x) g))
-            → Within (times (turns plan i w) b) (sum (log .size) (λ k. sum (log .job k .stays) (λ y. on (holds plan log i t0 blk w k y) (on (o k) 1))))
+            → Within (times (turns plan i w) b) (sum (log .size) (λ k. sum (log .job k .stays) (λ y. on (holds plan log i t0 blocker w k y) (on (o k) 1))))
         go (Phases l) h = at-most l h
         go Unlimited h = tt
 
     few-chosen : Within (times (turns plan i w) (limits (i .core) g)) (sum (plan .size) (λ u. on (others group (i .core) g (plan .task u .core)) (sum (plan .task u .stays) (chosen u))))
     few-chosen = within-less (times (turns plan i w) (limits (i .core) g)) (sum (plan .size) (λ u. on (p u) (sum (plan .task u .stays) (chosen u))))
-        (sum (log .size) (λ k. sum (log .job k .stays) (λ y. on (holds plan log i t0 blk w k y) (on (o k) 1)))) few
+        (sum (log .size) (λ k. sum (log .job k .stays) (λ y. on (holds plan log i t0 blocker w k y) (on (o k) 1)))) few
         (omega (
           arith,
           by-task (λ u _. on (p u) 1),
@@ -295,14 +295,14 @@ module _ (group : ℕ → ℕ → Bool) (limits : ℕ → ℕ → Limit) (plan :
         p u = others group (i .core) g (plan .task u .core)
 
   pub remote-ticks : (S : ℕ) → AtMostOthers group limits plan i w S
-      → sum (log .size) (λ k. sum (log .job k .stays) (λ y. on (holds plan log i t0 blk w k y) (len (log .job k .stay y)))) ≤ S
+      → sum (log .size) (λ k. sum (log .job k .stays) (λ y. on (holds plan log i t0 blocker w k y) (len (log .job k .stay y)))) ≤ S
   remote-ticks S rest =
       omega (
         arith,
         rest chosen (record { each = offers; few = few-chosen }),
         by-task (λ u x. plan .task u .long x),
-        sum-le (log .size) (λ k. sum (log .job k .stays) (λ y. on (holds plan log i t0 blk w k y) (len (log .job k .stay y))))
-            (λ k. sum (log .job k .stays) (λ y. on (holds plan log i t0 blk w k y) (plan .task (log .job k .task) .long y)))
-            (λ k l. sum-le (log .job k .stays) (λ y. on (holds plan log i t0 blk w k y) (len (log .job k .stay y))) (λ y. on (holds plan log i t0 blk w k y) (plan .task (log .job k .task) .long y))
-            (λ y m. on-mono (holds plan log i t0 blk w k y) (len (log .job k .stay y)) (plan .task (log .job k .task) .long y) (λ _. omega (arith, law .possible k l .most y m)))),
+        sum-le (log .size) (λ k. sum (log .job k .stays) (λ y. on (holds plan log i t0 blocker w k y) (len (log .job k .stay y))))
+            (λ k. sum (log .job k .stays) (λ y. on (holds plan log i t0 blocker w k y) (plan .task (log .job k .task) .long y)))
+            (λ k l. sum-le (log .job k .stays) (λ y. on (holds plan log i t0 blocker w k y) (len (log .job k .stay y))) (λ y. on (holds plan log i t0 blocker w k y) (plan .task (log .job k .task) .long y))
+            (λ y m. on-mono (holds plan log i t0 blocker w k y) (len (log .job k .stay y)) (plan .task (log .job k .task) .long y) (λ _. omega (arith, law .possible k l .most y m)))),
       )

@@ -89,7 +89,7 @@ module _ (group : ℕ → ℕ → Bool) (limits : ℕ → ℕ → Limit) (plan :
                 (omega (arith, last, p .serves m inner, p .goes-on m inner)),
           )
 
-  module _ (i : Task) (t0 blk w : ℕ) where
+  module _ (i : Task) (t0 blocker w : ℕ) where
     pub inside-count : (u : ℕ) → u < plan .size
         → sum (log .size) (λ k. on (inside plan log i t0 w k && eqb (log .job k .task) u) 1) ≤ jobs i w (plan .task u)
     inside-count u known =
@@ -132,35 +132,35 @@ module _ (group : ℕ → ℕ → Bool) (limits : ℕ → ℕ → Limit) (plan :
               (λ u. φ u * jobs i w (plan .task u)) (λ u l. mul-le-mul-left (φ u) (inside-count u l)),
         )
 
-    one-blocks : (j k : ℕ) → j < log .size → k < log .size → blocks plan log i blk j ≡ true → blocks plan log i blk k ≡ true → j ≡ k
+    one-blocks : (j k : ℕ) → j < log .size → k < log .size → blocks plan log i blocker j ≡ true → blocks plan log i blocker k ≡ true → j ≡ k
     one-blocks j k a b ej ek = is-blocker j ej ∙ sym (is-blocker k ek)
       where
-        is-blocker : (k : ℕ) → blocks plan log i blk k ≡ true → k ≡ blk
-        is-blocker k e = eqb-true k blk (and-parts (eqb k blk) (lower i (taskOf plan (log .job k))) e .0)
+        is-blocker : (k : ℕ) → blocks plan log i blocker k ≡ true → k ≡ blocker
+        is-blocker k e = eqb-true k blocker (and-parts (eqb k blocker) (lower i (taskOf plan (log .job k))) e .0)
 
     blocks-sum : (f φ : ℕ → ℕ) → ((k : ℕ) → k < log .size → f k ≤ φ (log .job k .task))
-        → sum (log .size) (λ k. on (blocks plan log i blk k) (f k)) ≤ greatest (plan .size) (λ u. on (lower i (plan .task u)) (φ u))
-    blocks-sum f φ most = one-sum (log .size) (greatest (plan .size) (λ u. on (lower i (plan .task u)) (φ u))) (blocks plan log i blk) f one-blocks
+        → sum (log .size) (λ k. on (blocks plan log i blocker k) (f k)) ≤ greatest (plan .size) (λ u. on (lower i (plan .task u)) (φ u))
+    blocks-sum f φ most = one-sum (log .size) (greatest (plan .size) (λ u. on (lower i (plan .task u)) (φ u))) (blocks plan log i blocker) f one-blocks
         (λ k l e. omega (
           arith,
           most k l,
           greatest-point (plan .size) (λ u. on (lower i (plan .task u)) (φ u)) (log .job k .task) (law .known k l),
           on-true (lower i (plan .task (log .job k .task))) (φ (log .job k .task))
-              (and-parts (eqb k blk) (lower i (taskOf plan (log .job k))) e .1),
+              (and-parts (eqb k blocker) (lower i (taskOf plan (log .job k))) e .1),
         ))
 
-    split : (f : ℕ → ℕ) → sum (log .size) (λ k. on (counts plan log i t0 blk w k) (f k))
-        ≤ sum (log .size) (λ k. on (inside plan log i t0 w k) (f k)) + sum (log .size) (λ k. on (blocks plan log i blk k) (f k))
+    split : (f : ℕ → ℕ) → sum (log .size) (λ k. on (counts plan log i t0 blocker w k) (f k))
+        ≤ sum (log .size) (λ k. on (inside plan log i t0 w k) (f k)) + sum (log .size) (λ k. on (blocks plan log i blocker k) (f k))
     split f =
         omega (
           arith,
-          sum-le (log .size) (λ k. on (counts plan log i t0 blk w k) (f k)) (λ k. on (inside plan log i t0 w k) (f k) + on (blocks plan log i blk k) (f k))
-              (λ k l. on-or (inside plan log i t0 w k) (blocks plan log i blk k) (f k)),
-          sum-add (log .size) (λ k. on (inside plan log i t0 w k) (f k)) (λ k. on (blocks plan log i blk k) (f k)),
+          sum-le (log .size) (λ k. on (counts plan log i t0 blocker w k) (f k)) (λ k. on (inside plan log i t0 w k) (f k) + on (blocks plan log i blocker k) (f k))
+              (λ k l. on-or (inside plan log i t0 w k) (blocks plan log i blocker k) (f k)),
+          sum-add (log .size) (λ k. on (inside plan log i t0 w k) (f k)) (λ k. on (blocks plan log i blocker k) (f k)),
         )
 
     -- the waits are at most `turns`
-    pub counts-turns : sum (log .size) (λ k. on (counts plan log i t0 blk w k) (log .job k .stays)) ≤ turns plan i w
+    pub counts-turns : sum (log .size) (λ k. on (counts plan log i t0 blocker w k) (log .job k .stays)) ≤ turns plan i w
     counts-turns =
         omega (
           arith,
@@ -176,7 +176,7 @@ module _ (group : ℕ → ℕ → Bool) (limits : ℕ → ℕ → Limit) (plan :
 
     -- own ticks in the window
     pub own-ticks : (q : ℕ) → Level plan log i q → t0 ≤ log .job q .ready → log .job q .ready < t0 + w → t0 + w < log .job q .end
-        → sum (log .size) (λ k. on (counts plan log i t0 blk w k) (ownIn t0 w (log .job k))) < block plan i + own plan i w
+        → sum (log .size) (λ k. on (counts plan log i t0 blocker w k) (ownIn t0 w (log .job k))) < block plan i + own plan i w
     own-ticks q v from to late =
         omega (
           arith,

@@ -1,5 +1,5 @@
--- The share is at least the total of each choice.
-use mathlib.Core.Path.{_≡_, ap}
+-- Totals by lengths: no choice totals more than the share.
+use mathlib.Core.Path.{_≡_, ap, _∙_}
 use mathlib.Core.Logic.{inl, inr}
 use Prim.Native.Nat.{ℕ, zero, suc, _+_, _*_, max, _≤_, _<_}
 use native.Mathlib.Omega.{arith}
@@ -8,10 +8,10 @@ use Rattle.std.proofs.shelf.Tests.{cases-lt, lt-ltb, le-ltb}
 use Rattle.tasks.specs.declared.limit.Limit.{Limit}
 use Rattle.tasks.specs.declared.limit.Limit.the-variants.{Phases, Unlimited}
 use Rattle.tasks.specs.Limits.{Within, capped}
-use Rattle.argument.specs.Sums.{sum, on, greatest}
+use Rattle.argument.specs.Sums.{sum, on}
 use Rattle.argument.specs.Plans.{Plan}
-use Rattle.argument.specs.Demand.{offered, Choice, total, longer, share}
-use Rattle.argument.proofs.Sums.{sum-le, sum-eq, sum-add, sum-swap}
+use Rattle.argument.specs.Demand.{offered, Choice, total, longer, longest, share}
+use Rattle.argument.proofs.Sums.{sum-zero, sum-le, sum-eq, sum-add, sum-swap}
 use Rattle.argument.proofs.Counts.{on-le, on-true, on-false}
 use Rattle.argument.proofs.Exchange.{on-mono, greatest-point}
 
@@ -41,43 +41,54 @@ pub within-less : (cap : Limit) (x y : ℕ) → Within cap y → x ≤ y → Wit
 within-less (Phases n) x y h l = omega arith
 within-less Unlimited x y h l = tt
 
-pub choice-le-share : (plan : Plan) (b w : ℕ) (cap : Limit) (x y : ℕ → ℕ) → Choice plan b w cap x y → total plan x y ≤ share plan b w cap
-choice-le-share plan b w cap x y c =
-    omega (
-      arith,
-      sum-eq n (λ u. plan .row u .a * x u + plan .row u .r * y u) (λ u. sum M (λ l. part l u)) apart,
-      sum-swap n M (λ u l. part l u),
-      sum-le M (λ l. sum n (λ u. part l u)) (λ l. capped cap (longer plan b w l)) each,
-    )
+-- no phase is longer than the longest
+pub longest-a : (plan : Plan) (u : ℕ) → u < plan .size → plan .row u .a ≤ longest plan
+longest-a plan u l = omega (arith, greatest-point (plan .size) (λ u. max (plan .row u .a) (plan .row u .r)) u l)
+
+pub longest-r : (plan : Plan) (u : ℕ) → u < plan .size → plan .row u .r ≤ longest plan
+longest-r plan u l = omega (arith, greatest-point (plan .size) (λ u. max (plan .row u .a) (plan .row u .r)) u l)
+
+pub longer-none : (plan : Plan) (core w l : ℕ) → longest plan ≤ l → longer plan core w l ≡ 0
+longer-none plan core w l h = sum-zero (plan .size) _ (λ u k. omega (
+  arith,
+  on-false (ltb l (plan .row u .a)) (offered core w (plan .row u)) (le-ltb l (plan .row u .a) (omega (arith, longest-a plan u k))),
+  on-false (ltb l (plan .row u .r)) (offered core w (plan .row u)) (le-ltb l (plan .row u .r) (omega (arith, longest-r plan u k))),
+))
+
+-- of the phases of a choice, those of the task u that are longer than l
+abbrev pub part : Plan → (ℕ → ℕ) → (ℕ → ℕ) → ℕ → ℕ → ℕ
+part plan x y l u = on (ltb l (plan .row u .a)) (x u) + on (ltb l (plan .row u .r)) (y u)
+
+-- the total by lengths
+pub total-layers : (plan : Plan) (x y : ℕ → ℕ) → total plan x y ≡ sum (longest plan) (λ l. sum (plan .size) (part plan x y l))
+total-layers plan x y =
+    sum-eq (plan .size) (λ u. plan .row u .a * x u + plan .row u .r * y u) (λ u. sum (longest plan) (λ l. part plan x y l u)) apart
+    ∙ sum-swap (plan .size) (longest plan) (λ u l. part plan x y l u)
   where
-    n : ℕ
-    n = plan .size
-
-    M : ℕ
-    M = greatest (plan .size) (λ u. max (plan .row u .a) (plan .row u .r))
-
-    part : ℕ → ℕ → ℕ
-    part l u = on (ltb l (plan .row u .a)) (x u) + on (ltb l (plan .row u .r)) (y u)
-
-    apart : (u : ℕ) → u < plan .size → plan .row u .a * x u + plan .row u .r * y u ≡ sum M (λ l. part l u)
+    apart : (u : ℕ) → u < plan .size → plan .row u .a * x u + plan .row u .r * y u ≡ sum (longest plan) (λ l. part plan x y l u)
     apart u l = omega (
       arith,
-      layers M (plan .row u .a) (x u) (omega (arith, top)),
-      layers M (plan .row u .r) (y u) (omega (arith, top)),
-      sum-add M (λ l. on (ltb l (plan .row u .a)) (x u)) (λ l. on (ltb l (plan .row u .r)) (y u)),
+      layers (longest plan) (plan .row u .a) (x u) (longest-a plan u l),
+      layers (longest plan) (plan .row u .r) (y u) (longest-r plan u l),
+      sum-add (longest plan) (λ l. on (ltb l (plan .row u .a)) (x u)) (λ l. on (ltb l (plan .row u .r)) (y u)),
     )
-      where
-        top : max (plan .row u .a) (plan .row u .r) ≤ M
-        top = greatest-point (plan .size) (λ u. max (plan .row u .a) (plan .row u .r)) u l
 
-    each : (l : ℕ) → l < M → sum n (λ u. part l u) ≤ capped cap (longer plan b w l)
-    each l k = within-capped cap (sum n (λ u. part l u)) (longer plan b w l)
-        (within-less cap (sum n (λ u. part l u)) (sum n (λ u. x u + y u)) (c .few)
-        (sum-le n (λ u. part l u) (λ u. x u + y u) (λ u q. omega (arith, on-le (ltb l (plan .row u .a)) (x u), on-le (ltb l (plan .row u .r)) (y u)))))
-        (sum-le n (λ u. part l u)
-        (λ u. on (ltb l (plan .row u .a)) (offered b w (plan .row u)) + on (ltb l (plan .row u .r)) (offered b w (plan .row u)))
-        (λ u q. omega (
+pub choice-le-share : (plan : Plan) (core w : ℕ) (limit : Limit) (x y : ℕ → ℕ) → Choice plan core w limit x y → total plan x y ≤ share plan core w limit
+choice-le-share plan core w limit x y choice =
+    omega (
+      arith,
+      total-layers plan x y,
+      sum-le (longest plan) (λ l. sum (plan .size) (part plan x y l)) (λ l. capped limit (longer plan core w l)) each,
+    )
+  where
+    few : (l : ℕ) → sum (plan .size) (part plan x y l) ≤ sum (plan .size) (λ u. x u + y u)
+    few l = sum-le (plan .size) _ _ (λ u _. omega (arith, on-le (ltb l (plan .row u .a)) (x u), on-le (ltb l (plan .row u .r)) (y u)))
+
+    each : (l : ℕ) → l < longest plan → sum (plan .size) (part plan x y l) ≤ capped limit (longer plan core w l)
+    each l _ = within-capped limit (sum (plan .size) (part plan x y l)) (longer plan core w l)
+        (within-less limit (sum (plan .size) (part plan x y l)) (sum (plan .size) (λ u. x u + y u)) (choice .few) (few l))
+        (sum-le (plan .size) _ _ (λ u k. omega (
           arith,
-          on-mono (ltb l (plan .row u .a)) (x u) (offered b w (plan .row u)) (λ _. c .some-a u q),
-          on-mono (ltb l (plan .row u .r)) (y u) (offered b w (plan .row u)) (λ _. c .some-r u q),
+          on-mono (ltb l (plan .row u .a)) (x u) (offered core w (plan .row u)) (λ _. choice .some-a u k),
+          on-mono (ltb l (plan .row u .r)) (y u) (offered core w (plan .row u)) (λ _. choice .some-r u k),
         )))

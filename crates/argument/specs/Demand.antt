@@ -66,10 +66,13 @@ abbrev pub longer : Plan → ℕ → ℕ → ℕ → ℕ
 longer plan core w l =
     sum (plan .size) (λ place. on (ltb l (plan .row place .a)) (offered core w (plan .row place)) + on (ltb l (plan .row place .r)) (offered core w (plan .row place)))
 
--- the share of a core: the greatest total of any choice, reckoned tick by tick of length (a phase of length n is longer than 0, .., n - 1)
+-- the length of the longest phase of the plan
+abbrev pub longest : Plan → ℕ
+longest plan = greatest (plan .size) (λ place. max (plan .row place .a) (plan .row place .r))
+
+-- the share of a core: the greatest total of any choice, reckoned by lengths (a phase of n ticks is longer than 0, .., n - 1)
 abbrev pub share : Plan → ℕ → ℕ → Limit → ℕ
-share plan core w limit =
-    sum (greatest (plan .size) (λ place. max (plan .row place .a) (plan .row place .r))) (λ l. capped limit (longer plan core w l))
+share plan core w limit = sum (longest plan) (λ l. capped limit (longer plan core w l))
 
 -- the shares of all other cores, each for at most turns × its limit phases
 abbrev pub shares : Plan → (ℕ → ℕ → Limit) → Row → ℕ → ℕ
@@ -88,8 +91,11 @@ Covers plan limits place w = demand plan limits place w ≤ w
 
 -- a number from 1 to the deadline that covers
 pub record WindowFor (plan : Plan) (limits : ℕ → ℕ → Limit) (place w : ℕ) : Type 0 where
+  -- it is at least 1
   pub some : 1 ≤ w
+  -- it is at most the deadline
   pub in-time : w ≤ plan .row place .deadline
+  -- and it covers
   pub covers : Covers plan limits place w
 
 -- no number from 1 on below the end covers

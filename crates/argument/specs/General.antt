@@ -12,6 +12,7 @@ use Rattle.argument.specs.Sums.{sum, greatest, on, ceil}
 -- ---- plans and logs
 
 pub record Task : Type 0 where
+  -- core, rank and spacing as ever
   pub core : ℕ
   pub rank : ℕ
   pub spacing : ℕ
@@ -27,28 +28,41 @@ pub record Task : Type 0 where
   pub long : ℕ → ℕ
 
 pub record Plan : Type 0 where
+  -- the places of the tasks are the numbers below this one
   pub size : ℕ
   pub task : ℕ → Task
 
--- one turn: when it joined, when it was granted, and its end
+-- one turn, a stay on the bus
 pub record Stay : Type 0 where
+  -- its wait begins
   pub joined : ℕ
+  -- its wait ends, and its service begins
   pub granted : ℕ
+  -- its service ends
   pub ended : ℕ
 
 pub record Job : Type 0 where
+  -- the place of its task
   pub task : ℕ
+  -- it is there
   pub release : ℕ
+  -- it may be started
   pub ready : ℕ
+  -- it is put on its core
   pub start : ℕ
+  -- how many turns it has
   pub stays : ℕ
+  -- its turns, in their order
   pub stay : ℕ → Stay
+  -- it leaves its core
   pub end : ℕ
 
 pub record Log : Type 0 where
+  -- the jobs are the numbers below this one
   pub size : ℕ
   pub job : ℕ → Job
 
+-- the task of a job, and its core
 abbrev pub taskOf : Plan → Job → Task
 taskOf plan job = plan .task (job .task)
 
@@ -76,16 +90,25 @@ met group plan log c stay g =
 
 -- the moments of a job come in their order, and nothing takes longer than its task says
 pub record Possible (task : Task) (job : Job) : Type 0 where
+  -- it is ready from its release on, up to the delay later
   pub ready-from : job .release ≤ job .ready
   pub ready-by : job .ready ≤ job .release + task .delay
+  -- it is started when it is ready
   pub starts : job .ready ≤ job .start
+  -- it is on its core for some time
   pub lasts : job .start < job .end
+  -- it has no more turns than its task says
   pub few : job .stays ≤ task .stays
+  -- it may run before its first turn
   pub begins : job .start ≤ joins job 0
+  -- a turn waits, perhaps for no time
   pub waits : (x : ℕ) → x < job .stays → job .stay x .joined ≤ job .stay x .granted
+  -- its service takes some time, and no more than its task says
   pub serves : (x : ℕ) → x < job .stays → job .stay x .granted < job .stay x .ended
   pub most : (x : ℕ) → x < job .stays → job .stay x .ended ≤ job .stay x .granted + task .long x
+  -- it may run between two turns, and after the last
   pub goes-on : (x : ℕ) → x < job .stays → job .stay x .ended ≤ joins job (suc x)
+  -- all that is no wait takes no more than the cost
   pub owns : (joins job 0 - job .start) + sum (job .stays) (λ x. joins job (suc x) - job .stay x .granted) ≤ task .cost
 
 -- the first job goes before the second
@@ -94,6 +117,7 @@ Before plan first second = (taskOf plan first .rank < taskOf plan second .rank) 
 
 -- the job j is on the core c at the moment t
 pub record OnCore (plan : Plan) (log : Log) (c t j : ℕ) : Type 0 where
+  -- it is a job of that core, has started, and has not ended
   pub known : j < log .size
   pub same : coreOf plan (log .job j) ≡ c
   pub from : log .job j .start ≤ t
@@ -101,6 +125,7 @@ pub record OnCore (plan : Plan) (log : Log) (c t j : ℕ) : Type 0 where
 
 -- turn y of the job j, of another core than c, is in service at the moment t
 pub record Carried (plan : Plan) (log : Log) (c t j y : ℕ) : Type 0 where
+  -- it is a turn of a job of another core, has been granted, and has not ended
   pub known : j < log .size
   pub other : coreOf plan (log .job j) ≡ c → ⊥
   pub turn : y < log .job j .stays
@@ -132,9 +157,11 @@ pub record Lawful (group : ℕ → ℕ → Bool) (limits : ℕ → ℕ → Limit
 
 -- ---- demand
 
+-- the other goes first, or is the task itself
 abbrev pub level : Task → Task → Bool
 level task other = eqb (other .core) (task .core) && leb (other .rank) (task .rank)
 
+-- the task goes first
 abbrev pub lower : Task → Task → Bool
 lower task other = eqb (other .core) (task .core) && ltb (task .rank) (other .rank)
 
@@ -142,12 +169,15 @@ lower task other = eqb (other .core) (task .core) && ltb (task .rank) (other .ra
 abbrev pub jobs : Task → ℕ → Task → ℕ
 jobs task w other = on (level task other) (ceil (w + other .delay) (other .spacing))
 
+-- the longest job that may be on the core already
 abbrev pub block : Plan → Task → ℕ
 block plan task = greatest (plan .size) (λ u. on (lower task (plan .task u)) (plan .task u .cost))
 
+-- the ticks that all these jobs take when they never wait
 abbrev pub own : Plan → Task → ℕ → ℕ
 own plan task w = sum (plan .size) (λ u. plan .task u .cost * jobs task w (plan .task u))
 
+-- how often the core may wait for the bus, by the number of turns of each task
 abbrev pub turns : Plan → Task → ℕ → ℕ
 turns plan task w =
     sum (plan .size) (λ u. plan .task u .stays * jobs task w (plan .task u)) + greatest (plan .size) (λ u. on (lower task (plan .task u)) (plan .task u .stays))
@@ -164,6 +194,7 @@ pub record Choice (group : ℕ → ℕ → Bool) (limits : ℕ → ℕ → Limit
   pub few : (g : ℕ) → Within (times (turns plan task w) (limits (task .core) g))
       (sum (plan .size) (λ u. on (others group (task .core) g (plan .task u .core)) (sum (plan .task u .stays) (chosen u))))
 
+-- the ticks of all turns of a choice
 abbrev pub total : Plan → (ℕ → ℕ → ℕ) → ℕ
 total plan chosen = sum (plan .size) (λ u. sum (plan .task u .stays) (λ x. plan .task u .long x * chosen u x))
 
@@ -173,9 +204,12 @@ AtMostOthers group limits plan task w ticks = (chosen : ℕ → ℕ → ℕ) →
 
 -- w covers what can come up in w ticks, and a job that is ready within its delay ends within its reach
 pub record WindowFor (group : ℕ → ℕ → Bool) (limits : ℕ → ℕ → Limit) (plan : Plan) (task : Task) (w : ℕ) : Type 0 where
+  -- it is at least 1
   pub some : 1 ≤ w
+  -- a job that is ready as late as may be ends within the reach
   pub in-reach : task .delay + w ≤ task .reach
   -- what the other cores take at most
   pub rest : ℕ
   pub at-most : AtMostOthers group limits plan task w rest
+  -- and it covers
   pub covers : block plan task + own plan task w + rest ≤ w

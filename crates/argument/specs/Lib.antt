@@ -1,7 +1,8 @@
 pub mod Sums
 pub mod Plans
 pub mod Demand
-pub mod Greedy
+pub mod LongestFirst
+pub mod Jumps
 pub mod Logs
 pub mod General
 pub mod Theorems

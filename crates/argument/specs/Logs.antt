@@ -13,17 +13,21 @@ use Rattle.tasks.specs.Limits.{Within}
 use Rattle.argument.specs.Sums.{sum, on}
 use Rattle.argument.specs.Plans.{Plan}
 
--- a row of a log: the place of the job's task, and the moments of the job in the order in which they come
+-- a row of a log: whose job it is, and its moments in the order in which they come
 pub record Job : Type 0 where
+  -- the place of its task
   pub task : ℕ
-  -- the job is there, and ready
+  -- it is there, and ready
   pub release : ℕ
   -- it is put on its core, and joins for its A turn
   pub start : ℕ
+  -- the bus takes up its A phase
   pub a-granted : ℕ
+  -- its A phase is over, and its E phase begins
   pub a-end : ℕ
-  -- its run without the bus is over, and it joins for its R turn
+  -- its E phase, which needs no bus, is over, and it joins for its R turn
   pub e-end : ℕ
+  -- the bus takes up its R phase
   pub r-granted : ℕ
   -- its R turn is over, and it leaves its core
   pub end : ℕ
@@ -31,12 +35,14 @@ pub record Job : Type 0 where
 pub record Log : Type 0 where
   -- the jobs are the numbers below this one
   pub size : ℕ
+  -- the row of a job
   pub job : ℕ → Job
 
 -- what stands past the end of a list of rows; nothing looks there
 abbrev pub noJob : Job
 noJob = record { task = 0; release = 0; start = 0; a-granted = 0; a-end = 0; e-end = 0; r-granted = 0; end = 0 }
 
+-- the log of a list of rows
 abbrev pub logOf : List Job → Log
 logOf jobs = record { size = length jobs; job = λ k. getD jobs k noJob }
 
@@ -62,6 +68,7 @@ ended R job = job .end
 abbrev pub meets : Turn → Job → Turn → Job → Bool
 meets turn job turn′ job′ = ltb (granted turn′ job′) (granted turn job) && ltb (joined turn job) (ended turn′ job′)
 
+-- the row of the job's task, and its core
 abbrev pub rowOf : Plan → Job → Row
 rowOf plan job = plan .row (job .task)
 
@@ -77,14 +84,21 @@ met plan log turn job core =
 
 -- possible moments: the job is one of a task of the plan, its moments come in their order, and no phase is empty or longer than the task's
 pub record Possible (plan : Plan) (job : Job) : Type 0 where
+  -- the task is one of the plan
   pub known : job .task < plan .size
+  -- it is started when it is ready
   pub starts : job .release ≤ job .start
+  -- its A turn waits, perhaps for no time
   pub waits-a : job .start ≤ job .a-granted
+  -- its A phase takes 1 tick to a ticks
   pub some-a : job .a-granted < job .a-end
   pub most-a : job .a-end ≤ job .a-granted + rowOf plan job .a
+  -- its E phase takes 1 tick to e ticks
   pub some-e : job .a-end < job .e-end
   pub most-e : job .e-end ≤ job .a-end + rowOf plan job .e
+  -- its R turn waits, perhaps for no time
   pub waits-r : job .e-end ≤ job .r-granted
+  -- its R phase takes 1 tick to r ticks
   pub some-r : job .r-granted < job .end
   pub most-r : job .end ≤ job .r-granted + rowOf plan job .r
 
@@ -104,9 +118,13 @@ OneAtATime plan log = (j k : ℕ) → j < log .size → k < log .size → (j ≡
 
 -- the job j is on the core of the job k at the moment t
 pub record OnCore (plan : Plan) (log : Log) (k t j : ℕ) : Type 0 where
+  -- it is a job of the log
   pub known : j < log .size
+  -- of the same core
   pub same : coreOf plan (log .job j) ≡ coreOf plan (log .job k)
+  -- it has started
   pub from : log .job j .start ≤ t
+  -- and has not ended
   pub to : t < log .job j .end
 
 -- no idling: while a job is ready and not started, some job is on its core
@@ -124,9 +142,13 @@ RightChoice plan log = (j k : ℕ) → j < log .size → k < log .size → coreO
 
 -- a turn of the job j, which is of another core than the job k, is in service at the moment t
 pub record Carried (plan : Plan) (log : Log) (k t : ℕ) (turn : Turn) (j : ℕ) : Type 0 where
+  -- it is a job of the log
   pub known : j < log .size
+  -- of another core
   pub other : coreOf plan (log .job j) ≡ coreOf plan (log .job k) → ⊥
+  -- its turn has been granted
   pub from : granted turn (log .job j) ≤ t
+  -- and has not ended
   pub to : t < ended turn (log .job j)
 
 -- never free while one waits: at each moment of a wait, a turn of another core is in service
@@ -141,12 +163,12 @@ LimitsKept plan limits log = (turn : Turn) (k : ℕ) → k < log .size → (core
 
 -- the laws by name
 pub data Law : Type 0 where
-  possible-moments spacing one-at-a-time no-idling right-choice never-free limits-kept : Law
+  possible-moments spaced-releases one-at-a-time no-idling right-choice never-free limits-kept : Law
 
 -- the log keeps a law of the plan, for an arbiter with these limits (`limits c b`: how many turns of b a wait of c may meet)
 abbrev pub Keeps : Plan → (ℕ → ℕ → Limit) → Log → Law → Type 0
 Keeps plan limits log possible-moments = PossibleMoments plan log
-Keeps plan limits log spacing = Spaced plan log
+Keeps plan limits log spaced-releases = Spaced plan log
 Keeps plan limits log one-at-a-time = OneAtATime plan log
 Keeps plan limits log no-idling = NoIdling plan log
 Keeps plan limits log right-choice = RightChoice plan log

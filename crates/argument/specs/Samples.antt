@@ -26,13 +26,13 @@ favours-0 zero other = Phases 1
 favours-0 (suc waiting) other = Unlimited
 
 -- a row of a log: the place of the task, its release, start, A granted, A end, E end, R granted, end
-abbrev pub row : ℕ → ℕ → ℕ → ℕ → ℕ → ℕ → ℕ → ℕ → Job
-row task release start a-granted a-end e-end r-granted end =
+abbrev pub logRow : ℕ → ℕ → ℕ → ℕ → ℕ → ℕ → ℕ → ℕ → Job
+logRow task release start a-granted a-end e-end r-granted end =
     record { task = task; release = release; start = start; a-granted = a-granted; a-end = a-end; e-end = e-end; r-granted = r-granted; end = end }
 
 -- all three released at 0 in the order 1, 2, 3, with full lengths, under the queue
 abbrev pub first-jobs : Log
-first-jobs = logOf (row 0 0 0 0 2 7 7 8 ∷ row 1 0 8 8 11 17 17 19 ∷ row 2 0 0 2 6 14 14 16 ∷ [])
+first-jobs = logOf (logRow 0 0 0 0 2 7 7 8 ∷ logRow 1 0 8 8 11 17 17 19 ∷ logRow 2 0 0 2 6 14 14 16 ∷ [])
 
 -- the plan is sound, and its log keeps the laws
 abbrev pub The-box-and-its-log-keep-the-laws : Type 0

@@ -1,5 +1,5 @@
 // The laws are not idle: without any one of these six, some job ends beyond its window.
-ghost use Rattle.argument.specs.Logs.{possible-moments, spacing, no-idling, right-choice, never-free, limits-kept};
+ghost use Rattle.argument.specs.Logs.{possible-moments, spaced-releases, no-idling, right-choice, never-free, limits-kept};
 ghost use Rattle.argument.specs.Theorems.{Needed};
 
 // A phase longer than its task's.
@@ -9,7 +9,7 @@ pub fn the_bound_needs_possible_moments()
 
 // Two jobs of a task released at once.
 pub fn the_bound_needs_spacing()
-    ensures { λ _. ⌜ Needed spacing ⌝ }
+    ensures { λ _. ⌜ Needed spaced-releases ⌝ }
 {}
 
 // A core that idles while a job is ready.

@@ -1,5 +1,5 @@
 // Demand can be reckoned: the share by taking the longest phases first, the outcome by jumps.
-ghost use Rattle.argument.specs.Theorems.{The-share-is-the-greatest-total-of-any-choice, Longest-first-reaches-the-share, Demand-never-falls, A-jump-passes-no-covering-number, Jumping-ends-at-the-outcome, The-outcome-is-fixed};
+ghost use Rattle.argument.specs.Theorems.{The-share-is-the-greatest-total-of-any-choice, Longest-first-reaches-the-share, The-offered-phases-in-any-order, Demand-never-falls, A-jump-passes-no-covering-number, Jumping-ends-at-the-outcome, The-outcome-is-fixed};
 
 // Some choice of offered phases totals the share, and none totals more.
 pub fn the_share_is_the_greatest_total_of_any_choice()
@@ -9,6 +9,11 @@ pub fn the_share_is_the_greatest_total_of_any_choice()
 // Of a list of the offered phases that falls by length.
 pub fn longest_first_reaches_the_share()
     ensures { λ _. ⌜ Longest-first-reaches-the-share ⌝ }
+{}
+
+// So that the list may be kept in order as it grows.
+pub fn the_offered_phases_in_any_order()
+    ensures { λ _. ⌜ The-offered-phases-in-any-order ⌝ }
 {}
 
 // More ticks, no less demand.

@@ -1,4 +1,4 @@
-use Rattle.argument.proofs.Greedy.{longest-first}
+use Rattle.argument.proofs.LongestFirst.{longest-first}
 use Rattle.argument.proofs.reckoning.longest_first_reaches_the_share.Needs as need
 
 pub returns : need.returns

@@ -1,20 +1,16 @@
--- Two ways to reckon: the longest phases first, and the search that jumps to the demand. The theorems say that they are right. Assumes nothing.
+-- The longest phases first, of a list of phases: each entry is a length, and how many phases have it. Assumes nothing.
 use mathlib.Core.Path.{_≡_}
 use mathlib.Core.Bool.{cond}
 use mathlib.Core.List.{List, [], _∷_}
 use Prim.Native.Nat.{ℕ, zero, suc, _+_, _-_, _*_, _≤_}
-use lib.Dec.{leb, ltb}
+use lib.Dec.{ltb, eqb}
 use Rattle.std.specs.shelf.Lists.{sumBy}
 use Rattle.tasks.specs.declared.limit.Limit.{Limit}
 use Rattle.tasks.specs.declared.limit.Limit.the-variants.{Phases, Unlimited}
-use Rattle.tasks.specs.declared.outcome.Outcome.{Outcome}
-use Rattle.tasks.specs.declared.outcome.Outcome.the-variants.{Window, Late}
 use Rattle.tasks.specs.Limits.{capped}
 use Rattle.argument.specs.Sums.{on}
 use Rattle.argument.specs.Plans.{Plan}
-use Rattle.argument.specs.Demand.{longer, demand}
-
--- ---- the longest first, of a list of phases: each entry a length, and how many phases have it
+use Rattle.argument.specs.Demand.{offered, longer}
 
 -- what a limit still lets through after n phases
 abbrev pub less : Limit → ℕ → Limit
@@ -44,11 +40,10 @@ manyLonger l phases = sumBy (λ phase. on (ltb l (phase .0)) (phase .1)) phases
 abbrev pub Offers : Plan → ℕ → ℕ → List (ℕ × ℕ) → Type 0
 Offers plan core w phases = (l : ℕ) → manyLonger l phases ≡ longer plan core w l
 
--- ---- the search
-
--- from w on, at most so many jumps: stop where the demand is covered, give up past the deadline, else go on at the demand
-abbrev pub searched : Plan → (ℕ → ℕ → Limit) → ℕ → ℕ → ℕ → Outcome
-searched plan limits place zero w = Late (demand plan limits place (plan .row place .deadline))
-searched plan limits place (suc jumps) w =
-    cond (ltb (plan .row place .deadline) w) (Late (demand plan limits place (plan .row place .deadline)))
-    (cond (leb (demand plan limits place w) w) (Window w) (searched plan limits place jumps (demand plan limits place w)))
+-- the list itself, of the tasks below a place: the A phases and the R phases of each task of the core once, with their number
+abbrev pub offersBelow : Plan → ℕ → ℕ → ℕ → List (ℕ × ℕ)
+offersBelow plan core w zero = []
+offersBelow plan core w (suc place) =
+    cond (eqb (plan .row place .core) core)
+    ((plan .row place .a, offered core w (plan .row place)) ∷ (plan .row place .r, offered core w (plan .row place)) ∷ offersBelow plan core w place)
+    (offersBelow plan core w place)

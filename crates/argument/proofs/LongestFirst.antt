@@ -2,23 +2,23 @@
 use mathlib.Core.Path.{_≡_, refl, sym, ap, _∙_}
 use mathlib.Core.Logic.{inl, inr}
 use mathlib.Core.List.{List, [], _∷_}
-use Prim.Native.Nat.{ℕ, _+_, max, _≤_, _<_}
+use Prim.Native.Nat.{ℕ, zero, suc, _+_, max, _≤_, _<_}
 use native.Mathlib.Omega.{arith}
-use lib.Dec.{ltb}
+use lib.Dec.{ltb, eqb}
 use Rattle.std.proofs.shelf.Sums.{sumBy-cons}
-use Rattle.std.proofs.shelf.Tests.{cases-lt, lt-ltb, le-ltb}
+use Rattle.std.proofs.shelf.Sorted.{sumBy-shuffled}
+use Rattle.std.proofs.shelf.Tests.{cond-both, cases-lt, lt-ltb, le-ltb}
 use Rattle.tasks.specs.declared.limit.Limit.{Limit}
 use Rattle.tasks.specs.declared.limit.Limit.the-variants.{Phases, Unlimited}
 use Rattle.tasks.specs.Limits.{capped}
-use Rattle.argument.specs.Sums.{sum, on, greatest}
+use Rattle.argument.specs.Sums.{sum, on}
 use Rattle.argument.specs.Plans.{Plan}
-use Rattle.argument.specs.Demand.{offered, longer, share}
-use Rattle.argument.specs.Greedy.{less, taken, NoneLonger, Falling, manyLonger}
-use Rattle.argument.specs.Theorems.{Longest-first-reaches-the-share}
+use Rattle.argument.specs.Demand.{offered, longer, longest, share}
+use Rattle.argument.specs.LongestFirst.{less, taken, NoneLonger, Falling, manyLonger, offersBelow}
+use Rattle.argument.specs.Theorems.{Longest-first-reaches-the-share, The-offered-phases-in-any-order}
 use Rattle.argument.proofs.Sums.{sum-zero, sum-eq, sum-add, sum-split}
-use Rattle.argument.proofs.Counts.{on-true, on-false}
-use Rattle.argument.proofs.Exchange.{greatest-point}
-use Rattle.argument.proofs.Shares.{layers}
+use Rattle.argument.proofs.Counts.{on-le, on-true, on-false}
+use Rattle.argument.proofs.Shares.{layers, longer-none}
 
 -- the first entry and the rest
 many-cons : (l length many : ℕ) (rest : List (ℕ × ℕ)) → manyLonger l ((length, many) ∷ rest) ≡ on (ltb l length) many + manyLonger l rest
@@ -77,43 +77,53 @@ by-layers ((length, many) ∷ rest) limit most f m =
               )
         ]
 
--- a common height over both
-layers-more : (plan : Plan) (core w : ℕ) (limit : Limit) (extra : ℕ)
-    → sum (greatest (plan .size) (λ u. max (plan .row u .a) (plan .row u .r)) + extra) (λ l. capped limit (longer plan core w l)) ≡ share plan core w limit
+-- the share, reckoned higher than the longest phase
+layers-more : (plan : Plan) (core w : ℕ) (limit : Limit) (extra : ℕ) → sum (longest plan + extra) (λ l. capped limit (longer plan core w l)) ≡ share plan core w limit
 layers-more plan core w limit extra =
     omega (
       arith,
-      sum-split M extra (λ l. capped limit (longer plan core w l)),
-      sum-zero extra (λ l. capped limit (longer plan core w (M + l))) (λ l _. ap (capped limit) (none l) ∙ capped-none limit),
+      sum-split (longest plan) extra (λ l. capped limit (longer plan core w l)),
+      sum-zero extra (λ l. capped limit (longer plan core w (longest plan + l)))
+          (λ l _. ap (capped limit) (longer-none plan core w (longest plan + l) (omega arith)) ∙ capped-none limit),
     )
-  where
-    M : ℕ
-    M = greatest (plan .size) (λ u. max (plan .row u .a) (plan .row u .r))
 
-    none : (l : ℕ) → longer plan core w (M + l) ≡ 0
-    none l = sum-zero (plan .size)
-        (λ u. on (ltb (M + l) (plan .row u .a)) (offered core w (plan .row u)) + on (ltb (M + l) (plan .row u .r)) (offered core w (plan .row u)))
-        (λ u k. let top = greatest-point (plan .size) (λ u. max (plan .row u .a) (plan .row u .r)) u k in
-        omega (
-          arith,
-          on-false (ltb (M + l) (plan .row u .a)) (offered core w (plan .row u)) (le-ltb (M + l) (plan .row u .a) (omega (arith, top))),
-          on-false (ltb (M + l) (plan .row u .r)) (offered core w (plan .row u)) (le-ltb (M + l) (plan .row u .r) (omega (arith, top))),
-        ))
+most : List (ℕ × ℕ) → ℕ
+most [] = 0
+most ((length, many) ∷ rest) = max length (most rest)
 
-longest : List (ℕ × ℕ) → ℕ
-longest [] = 0
-longest ((length, many) ∷ rest) = max length (longest rest)
-
-longest-most : (phases : List (ℕ × ℕ)) → NoneLonger (longest phases) phases
-unfolding longest
-longest-most [] = tt
-longest-most ((length, many) ∷ rest) = (omega arith, most-up (longest rest) (max length (longest rest)) rest (longest-most rest) (omega arith))
+none-above-most : (phases : List (ℕ × ℕ)) → NoneLonger (most phases) phases
+unfolding most
+none-above-most [] = tt
+none-above-most ((length, many) ∷ rest) = (omega arith, most-up (most rest) (max length (most rest)) rest (none-above-most rest) (omega arith))
 
 pub longest-first : Longest-first-reaches-the-share
 longest-first plan core w limit phases falling offers =
-    by-layers phases limit (M + longest phases) falling (most-up (longest phases) (M + longest phases) phases (longest-most phases) (omega arith))
-    ∙ sum-eq (M + longest phases) (λ l. capped limit (manyLonger l phases)) (λ l. capped limit (longer plan core w l)) (λ l _. ap (capped limit) (offers l))
-    ∙ layers-more plan core w limit (longest phases)
+    let height = longest plan + most phases in
+    by-layers phases limit height falling (most-up (most phases) height phases (none-above-most phases) (omega arith))
+    ∙ sum-eq height (λ l. capped limit (manyLonger l phases)) (λ l. capped limit (longer plan core w l)) (λ l _. ap (capped limit) (offers l))
+    ∙ layers-more plan core w limit (most phases)
+
+-- the list of the offered phases has them
+offers-below : (plan : Plan) (core w l n : ℕ) → manyLonger l (offersBelow plan core w n)
+    ≡ sum n (λ u. on (ltb l (plan .row u .a)) (offered core w (plan .row u)) + on (ltb l (plan .row u .r)) (offered core w (plan .row u)))
+offers-below plan core w l zero = refl
+offers-below plan core w l (suc n) =
+    cond-both (eqb (plan .row n .core) core) ((plan .row n .a, k) ∷ (plan .row n .r, k) ∷ rest) rest
+    (λ phases. manyLonger l phases ≡ sum n each + each n)
+    (λ _. omega (arith, many-cons l (plan .row n .a) k ((plan .row n .r, k) ∷ rest), many-cons l (plan .row n .r) k rest, offers-below plan core w l n))
+    (λ e. let none : k ≡ 0 = on-false (eqb (plan .row n .core) core) _ e in
+    omega (arith, offers-below plan core w l n, none, on-le (ltb l (plan .row n .a)) k, on-le (ltb l (plan .row n .r)) k))
   where
-    M : ℕ
-    M = greatest (plan .size) (λ u. max (plan .row u .a) (plan .row u .r))
+    k : ℕ
+    k = offered core w (plan .row n)
+
+    rest : List (ℕ × ℕ)
+    rest = offersBelow plan core w n
+
+    each : ℕ → ℕ
+    each u = on (ltb l (plan .row u .a)) (offered core w (plan .row u)) + on (ltb l (plan .row u .r)) (offered core w (plan .row u))
+
+pub any-order : The-offered-phases-in-any-order
+any-order plan core w phases shuffled l =
+    sumBy-shuffled (λ phase. on (ltb l (phase .0)) (phase .1)) (offersBelow plan core w (plan .size)) phases shuffled
+    ∙ offers-below plan core w l (plan .size)
