@@ -7,7 +7,7 @@ use lib.Dec.{leb, ltb, eqb}
 use lib.ListN.{length, getD}
 use Rattle.std.specs.declared.result.Result.the-variants.{Ok}
 use Rattle.tasks.specs.declared.task.Row.{Row}
-use Rattle.tasks.specs.Rows.{rowVerdict}
+use Rattle.tasks.specs.Rows.{noRow, rowVerdict}
 
 pub record Plan : Type 0 where
   -- the cores are the numbers below this one
@@ -16,10 +16,6 @@ pub record Plan : Type 0 where
   pub size : ℕ
   -- the numbers of the task at a place
   pub row : ℕ → Row
-
--- what stands at a place past the end; nothing looks there
-abbrev pub noRow : Row
-noRow = record { id = 0; core = 0; rank = 0; spacing = 0; deadline = 0; a = 0; e = 0; r = 0 }
 
 -- the plan of a list of rows
 abbrev pub planOf : ℕ → List Row → Plan

@@ -16,7 +16,7 @@ use Rattle.roster.specs.Order.{insertBy}
 use Rattle.tasks.specs.declared.task.Row.{Row}
 use Rattle.argument.specs.Sums.{sum, on, ceil}
 use Rattle.argument.specs.Demand.{offered}
-use Rattle.argument.specs.Greedy.{NoneLonger, Falling, manyLonger}
+use Rattle.argument.specs.LongestFirst.{NoneLonger, Falling, manyLonger}
 use Rattle.demand.specs.declared.offer.Phase.the-variants.{A, R}
 use Rattle.demand.specs.Offers.{Listed, listing, keeping, kept, ofCore, phasesIn}
 

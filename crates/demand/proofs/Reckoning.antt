@@ -13,8 +13,8 @@ use Rattle.tasks.specs.Limits.{times}
 use Rattle.argument.specs.Sums.{sum, on}
 use Rattle.argument.specs.Plans.{planOf}
 use Rattle.argument.specs.Demand.{block, own, turns, share, demand}
-use Rattle.argument.specs.Greedy.{taken}
-use Rattle.argument.proofs.Greedy.{longest-first}
+use Rattle.argument.specs.LongestFirst.{taken}
+use Rattle.argument.proofs.LongestFirst.{longest-first}
 use Rattle.argument.proofs.Sums.{sum-eq}
 use Rattle.demand.specs.Offers.{Listed, kept, ofCore, phasesIn}
 use Rattle.demand.specs.Rows.{rowAt, lowerAny, jobsCount}

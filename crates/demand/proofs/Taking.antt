@@ -11,7 +11,7 @@ use Rattle.std.proofs.shelf.Lists.{at-drop-more, at-drop-all}
 use Rattle.tasks.specs.declared.limit.Limit.{Limit}
 use Rattle.tasks.specs.Limits.{capped}
 use Rattle.argument.specs.Sums.{ceil}
-use Rattle.argument.specs.Greedy.{taken, less}
+use Rattle.argument.specs.LongestFirst.{taken, less}
 use Rattle.demand.specs.declared.offer.Offer.{Offer}
 use Rattle.demand.specs.Offers.{Listed, listed, ofCore, phasesIn}
 

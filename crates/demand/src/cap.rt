@@ -2,7 +2,7 @@
 ghost use mathlib.Core.Path.{_≡_};
 ghost use Prim.Native.Nat.{_≤_};
 ghost use Rattle.tasks.specs.Limits.{times, capped};
-ghost use Rattle.argument.specs.Greedy.{less};
+ghost use Rattle.argument.specs.LongestFirst.{less};
 ghost use Rattle.demand.specs.Caps.{limitOf};
 use tasks::limit::Limit;
 

@@ -8,7 +8,7 @@ ghost use lib.ListN.{length};
 ghost use Rattle.tasks.specs.Limits.{times};
 ghost use Rattle.argument.specs.Sums.{sum, on};
 ghost use Rattle.argument.specs.Plans.{planOf};
-ghost use Rattle.argument.specs.Greedy.{taken};
+ghost use Rattle.argument.specs.LongestFirst.{taken};
 ghost use Rattle.argument.specs.Demand.{demand as demandOf};
 ghost use Rattle.demand.specs.Offers.{listed, kept, ofCore, phasesIn};
 ghost use Rattle.demand.specs.Rows.{rowsOf, rowAt};

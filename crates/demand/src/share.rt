@@ -7,7 +7,7 @@ ghost use lib.Dec.{eqb};
 ghost use lib.ListN.{length};
 ghost use Rattle.tasks.specs.Limits.{capped};
 ghost use Rattle.argument.specs.Sums.{ceil};
-ghost use Rattle.argument.specs.Greedy.{taken, less};
+ghost use Rattle.argument.specs.LongestFirst.{taken, less};
 ghost use Rattle.demand.specs.Caps.{limitOf};
 ghost use Rattle.demand.specs.Offers.{listed, ofCore, phasesIn};
 use crate::cap::Cap;

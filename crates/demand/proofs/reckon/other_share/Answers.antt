@@ -2,7 +2,7 @@ use mathlib.Core.Path.{_≡_, sym, ap, _∙_}
 use mathlib.Core.List.{map}
 use borrow.Author.Needs.{needs}
 use Rattle.tasks.specs.Limits.{times}
-use Rattle.argument.specs.Greedy.{taken}
+use Rattle.argument.specs.LongestFirst.{taken}
 use Rattle.demand.specs.Offers.{listed, ofCore, phasesIn}
 use Rattle.demand.proofs.Reckoning.{other-core}
 use Rattle.demand.proofs.reckon.other_share.Needs as need

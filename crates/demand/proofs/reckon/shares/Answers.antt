@@ -4,7 +4,7 @@ use native.Mathlib.Omega.{arith}
 use lib.Dec.{eqb}
 use Rattle.tasks.specs.Limits.{times}
 use Rattle.argument.specs.Sums.{on}
-use Rattle.argument.specs.Greedy.{taken}
+use Rattle.argument.specs.LongestFirst.{taken}
 use Rattle.demand.specs.Offers.{listed, ofCore, phasesIn}
 use Rattle.demand.proofs.OwnCore.{sum-more}
 use Rattle.demand.proofs.reckon.shares.Needs as need

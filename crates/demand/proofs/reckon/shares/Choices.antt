@@ -5,7 +5,7 @@ use Prim.Native.Nat.{_*_, _≤_}
 use lib.Dec.{eqb}
 use Rattle.tasks.specs.Limits.{times}
 use Rattle.argument.specs.Sums.{sum, on}
-use Rattle.argument.specs.Greedy.{taken}
+use Rattle.argument.specs.LongestFirst.{taken}
 use Rattle.demand.specs.Offers.{listed, ofCore, phasesIn}
 use Rattle.demand.proofs.reckon.shares.Given as given
 

@@ -2,7 +2,7 @@ use Prim.Native.Nat.{_+_, _*_, _≤_}
 use mathlib.Core.Path.{_≡_}
 use mathlib.Core.List.{map}
 use lib.ListN.{drop}
-use Rattle.argument.specs.Greedy.{taken}
+use Rattle.argument.specs.LongestFirst.{taken}
 use Rattle.demand.specs.Caps.{limitOf}
 use Rattle.demand.specs.Offers.{listed, ofCore, phasesIn}
 use Rattle.demand.proofs.share.share.Given as given

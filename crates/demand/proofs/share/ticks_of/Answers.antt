@@ -7,7 +7,7 @@ use lib.Dec.{eqb}
 use Rattle.std.proofs.shelf.Tests.{cond-true}
 use Rattle.tasks.specs.Limits.{capped}
 use Rattle.argument.specs.Sums.{ceil}
-use Rattle.argument.specs.Greedy.{less}
+use Rattle.argument.specs.LongestFirst.{less}
 use Rattle.demand.specs.Caps.{limitOf}
 use Rattle.demand.proofs.Taking.{short-product}
 use Rattle.demand.proofs.share.ticks_of.Needs as need
