@@ -39,7 +39,7 @@ pub offers-more : (row : ℕ → Row) (i : ℕ) (old once twice : List Offer) (f
     → map listed twice ≡ kept row (i + 1)
 offers-more row i old once twice fetch write a r before first second =
     let one : map listed once ≡ insertBy keeping (listing (row i) i A) (kept row i) =
-        ap (map listed) first ∙ insert-listed fetch old ∙ rw (a, before) refl in
+    ap (map listed) first ∙ insert-listed fetch old ∙ rw (a, before) refl in
     let two : map listed twice ≡ insertBy keeping (listing (row i) i R) (insertBy keeping (listing (row i) i A) (kept row i)) =
-        ap (map listed) second ∙ insert-listed write once ∙ rw (r, one) refl in
+    ap (map listed) second ∙ insert-listed write once ∙ rw (r, one) refl in
     rw (add-one i) two

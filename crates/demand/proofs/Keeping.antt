@@ -110,10 +110,14 @@ kept-counts w core l row zero = refl
 kept-counts w core l row (suc n) =
     let own = eqb (row n .core) core in
     let many = ceil (w + row n .deadline) (row n .spacing) in
-    omega (arith, kept-counts w core l row n,
+    omega (
+      arith,
+      kept-counts w core l row n,
       insert-counts w core l (listing (row n) n A) (kept row n),
       insert-counts w core l (listing (row n) n R) (insertBy keeping (listing (row n) n A) (kept row n)),
-      on-swap own (ltb l (row n .a)) many, on-swap own (ltb l (row n .r)) many)
+      on-swap own (ltb l (row n .a)) many,
+      on-swap own (ltb l (row n .r)) many,
+    )
 
 -- ---- two offers for each task
 
@@ -127,5 +131,9 @@ insert-length x (y ∷ ys) = elim (cases-bool (isLt (keeping x y))) [
 pub kept-length : (row : ℕ → Row) (n : ℕ) → length (kept row n) ≡ 2 * n
 kept-length row zero = refl
 kept-length row (suc n) =
-    omega (arith, kept-length row n, insert-length (listing (row n) n A) (kept row n),
-      insert-length (listing (row n) n R) (insertBy keeping (listing (row n) n A) (kept row n)))
+    omega (
+      arith,
+      kept-length row n,
+      insert-length (listing (row n) n A) (kept row n),
+      insert-length (listing (row n) n R) (insertBy keeping (listing (row n) n A) (kept row n)),
+    )

@@ -59,7 +59,7 @@ module _ (tasks : List Task) (task : Row) (i : ℕ) (other : Task) (inside : i <
       → old + long * more ≡ sum (i + 1) (λ place. cost (getD (rowsOf tasks) place noRow) * jobs task w (getD (rowsOf tasks) place noRow))
   ticks-more w old long more l n o =
       let here : long * more ≡ cost (getD (rowsOf tasks) i noRow) * jobs task w (getD (rowsOf tasks) i noRow) =
-          rw (l, n) (ap (λ row. cost row * jobs task w row) (sym (row-at tasks i other inside is))) in
+      rw (l, n) (ap (λ row. cost row * jobs task w row) (sym (row-at tasks i other inside is))) in
       sum-more i (λ place. cost (getD (rowsOf tasks) place noRow) * jobs task w (getD (rowsOf tasks) place noRow)) old (long * more) here o
 
 pub all-looked-at : (tasks : List Task) (i : ℕ) → i ≤ length tasks → length tasks ≤ i → i ≡ length (rowsOf tasks)

@@ -49,9 +49,9 @@ pub demand-is : (cores : ℕ) (rows : List Row) (listings : List Listed) (limits
 demand-is cores rows listings limits place w row blocked ticks others jobs turnings lower at b t j l n is o =
     let often : turnings ≡ turns (planOf cores rows) row w = n ∙ rw (j, l) refl in
     let rest : others ≡ sum cores (λ core. on (not (eqb core (row .core))) (share (planOf cores rows) core w (times (turns (planOf cores rows) row w) (limits (row .core) core)))) =
-        o ∙ shares-are cores rows listings (row .core) w turnings limits is
-        ∙ ap (λ m. sum cores (λ core. on (not (eqb core (row .core))) (share (planOf cores rows) core w (times m (limits (row .core) core))))) often in
+    o ∙ shares-are cores rows listings (row .core) w turnings limits is
+    ∙ ap (λ m. sum cores (λ core. on (not (eqb core (row .core))) (share (planOf cores rows) core w (times m (limits (row .core) core))))) often in
     let all : (blocked + ticks) + others ≡ block (planOf cores rows) row + own (planOf cores rows) row w
-            + sum cores (λ core. on (not (eqb core (row .core))) (share (planOf cores rows) core w (times (turns (planOf cores rows) row w) (limits (row .core) core)))) =
-        omega (arith, b, t, rest) in
+    + sum cores (λ core. on (not (eqb core (row .core))) (share (planOf cores rows) core w (times (turns (planOf cores rows) row w) (limits (row .core) core)))) =
+    omega (arith, b, t, rest) in
     rw at all

@@ -31,8 +31,8 @@ module _ (offers : List Offer) (i : ℕ) (offer : Offer) (core w : ℕ) (inside 
       → (ticks + more) + taken after (phasesIn w (ofCore core (map listed (drop (i + 1) offers)))) ≡ all
   one-more left after ticks all more m a before =
       let next : taken left (phasesIn w (ofCore core (map listed (drop i offers)))) ≡ taken left (phasesIn w (ofCore core (listed offer ∷ map listed (drop (i + 1) offers)))) =
-          at-drop-more (λ xs. taken left (phasesIn w (ofCore core (map listed xs)))) offers i offer inside
-          ∙ ap (λ z. taken left (phasesIn w (ofCore core (map listed (z ∷ drop (i + 1) offers))))) (sym is) in
+      at-drop-more (λ xs. taken left (phasesIn w (ofCore core (map listed xs)))) offers i offer inside
+      ∙ ap (λ z. taken left (phasesIn w (ofCore core (map listed (z ∷ drop (i + 1) offers))))) (sym is) in
       let first = first-taken (listed offer) (map listed (drop (i + 1) offers)) core w left after more (eqb (offer .core) core) refl m a in
       omega (arith, next, first, before)
 

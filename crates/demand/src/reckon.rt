@@ -21,7 +21,13 @@ use bus::arbiter::Arbiter;
 use tasks::task::Task;
 
 // The demand of the task at a place for w ticks: block, own jobs and all shares.
-pub fn demand<B: Arbiter>(tasks: &[Task], offers: &[Offer], arbiter: &B, place: usize, w: u32) -> u64
+pub fn demand<B: Arbiter>(
+    tasks: &[Task],
+    offers: &[Offer],
+    arbiter: &B,
+    place: usize,
+    w: u32,
+) -> u64
     requires few { ⌜ length (now tasks) ≤ 64 ⌝ }
     requires near { ⌜ w ≤ 10000000 ⌝ }
     requires known { ⌜ place < length (now tasks) ⌝ }
@@ -62,7 +68,14 @@ fn shares<B: Arbiter>(offers: &[Offer], arbiter: &B, own: u8, w: u32, turns: u64
 }
 
 // The share of one core in the demand of a task of the core `own`: nothing for that core itself.
-fn other_share<B: Arbiter>(offers: &[Offer], arbiter: &B, own: u8, core: u8, w: u32, turns: u64) -> u64
+fn other_share<B: Arbiter>(
+    offers: &[Offer],
+    arbiter: &B,
+    own: u8,
+    core: u8,
+    w: u32,
+    turns: u64,
+) -> u64
     requires few { ⌜ length (now offers) ≤ 128 ⌝ }
     requires near { ⌜ w ≤ 10000000 ⌝ }
     requires seldom { ⌜ turns ≤ 10000000000 ⌝ }

@@ -17,7 +17,12 @@ use tasks::task::Task;
 
 // The least covering number from 1 to the deadline, or the demand at the deadline where there is none.
 // From a number that does not cover the search goes on at its demand: since demand never falls, no number in between covers.
-pub fn outcome_of<B: Arbiter>(tasks: &[Task], offers: &[Offer], arbiter: &B, place: usize) -> Outcome
+pub fn outcome_of<B: Arbiter>(
+    tasks: &[Task],
+    offers: &[Offer],
+    arbiter: &B,
+    place: usize,
+) -> Outcome
     requires few { ⌜ length (now tasks) ≤ 64 ⌝ }
     requires known { ⌜ place < length (now tasks) ⌝ }
     requires ports { ⌜ rowAt (rowsOf (now tasks)) place .core < B·Arbiter .means .meaning (now arbiter) .ports ⌝ }
@@ -39,7 +44,12 @@ pub fn outcome_of<B: Arbiter>(tasks: &[Task], offers: &[Offer], arbiter: &B, pla
 }
 
 // The outcome of every task, in the tasks' order.
-pub fn tell_all<B: Arbiter>(tasks: &[Task], offers: &[Offer], arbiter: &B, outcomes: &mut Vec<Outcome>)
+pub fn tell_all<B: Arbiter>(
+    tasks: &[Task],
+    offers: &[Offer],
+    arbiter: &B,
+    outcomes: &mut Vec<Outcome>,
+)
     requires few { ⌜ length (now tasks) ≤ 64 ⌝ }
     requires placed { ⌜ ((u : ℕ) → u < length (now tasks) → rowAt (rowsOf (now tasks)) u .core < B·Arbiter .means .meaning (now arbiter) .ports) ⌝ }
     requires fetched { ⌜ map listed (now offers) ≡ kept (rowAt (rowsOf (now tasks))) (length (rowsOf (now tasks))) ⌝ }

@@ -53,7 +53,12 @@ impl Work {
     }
 
     // Settles the task of each row into a table that is given, in the rows' order, and answers how many are late.
-    pub fn settle<B: Arbiter>(&mut self, rows: &[Row], arbiter: &B, outcomes: &mut Vec<Outcome>) -> usize
+    pub fn settle<B: Arbiter>(
+        &mut self,
+        rows: &[Row],
+        arbiter: &B,
+        outcomes: &mut Vec<Outcome>,
+    ) -> usize
         requires few { ⌜ length (now rows) ≤ 64 ⌝ }
         requires sound { ⌜ ((u : ℕ) → u < length (now rows) → bounded (rowAt (now rows) u) ≡ true) ⌝ }
         requires placed { ⌜ ((u : ℕ) → u < length (now rows) → rowAt (now rows) u .core < B·Arbiter .means .meaning (now arbiter) .ports) ⌝ }
@@ -63,7 +68,12 @@ impl Work {
         ensures room { λ _. ⌜ vec-cap (now (outcomes .exit)) ≡ vec-cap (now (outcomes .entry)) ⌝ }
     {
         self.fetch(rows);
-        tell_all(self.tasks.as_slice(), self.offers.as_slice(), arbiter, outcomes);
+        tell_all(
+            self.tasks.as_slice(),
+            self.offers.as_slice(),
+            arbiter,
+            outcomes,
+        );
         late_count(outcomes.as_slice())
     }
 }

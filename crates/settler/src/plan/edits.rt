@@ -9,9 +9,9 @@ ghost use Rattle.rules.specs.Rules.{openVerdict, addVerdict, removeVerdict, cha
 ghost use Rattle.settler.specs.Contents.{content, empty, edited};
 use crate::plan::Plan;
 use demand::work::Work;
+use rules::judge::MOST_TASKS;
 use rules::judge::judge_add;
 use rules::judge::judge_change;
-use rules::judge::MOST_TASKS;
 use rules::lookup::place_of;
 use std::alloc::Global;
 use tasks::platform::BusLine;

@@ -19,7 +19,8 @@ impl Plan {
         if arbiter.ports() != self.platform.cores {
             return Err(Refusal::Ports);
         }
-        let late = self.work.settle(self.rows.as_slice(), arbiter, &mut self.outcomes);
+        let late = self.work
+            .settle(self.rows.as_slice(), arbiter, &mut self.outcomes);
         self.settled = true;
         Ok(late)
     }

@@ -9,9 +9,10 @@ pub loop-other-again : need.loop-other-again
 loop-other-again c =
     let tasks = c .args .tasks .now in let task = c .args .task .now .row in
     let i = c .loop-other .other-index in let other = c .other-item .result in
-    let inside = c .loop-other-test .taken in let is = c .other-item .is in
-    (block-more tasks task i other inside is (valueOr (c .loop-other .longest) 0) (valueOr (c .longer-longest .result) 0) (c .longer-longest .ensures .ticks) (c .loop-other .inv .0),
-     any-more tasks task i other inside is (isSome (c .loop-other .longest)) (isSome (c .longer-longest .result)) (c .longer-longest .ensures .some) (c .loop-other .inv .1))
+    let inside = c .loop-other-test .taken in let is = c .other-item .is in (
+      block-more tasks task i other inside is (valueOr (c .loop-other .longest) 0) (valueOr (c .longer-longest .result) 0) (c .longer-longest .ensures .ticks) (c .loop-other .inv .0),
+      any-more tasks task i other inside is (isSome (c .loop-other .longest)) (isSome (c .longer-longest .result)) (c .longer-longest .ensures .some) (c .loop-other .inv .1),
+    )
 
 pub returns : need.returns
 returns c =

@@ -17,11 +17,12 @@ pub loop-other-again : need.loop-other-again
 loop-other-again c =
     let tasks = c .args .tasks .now in let task = c .args .task .now .row in
     let i = c .loop-other .other-index in let other = c .other-item .result in
-    let inside = c .loop-other-test .taken in let is = c .other-item .is in
-    (jobs-more tasks task i other inside is (c .args .w) (c .loop-other .count) (c .jobs-of-more .result) (c .jobs-of-more .ensures .value) (c .loop-other .inv .0),
-     ticks-more tasks task i other inside is (c .args .w) (c .loop-other .ticks) (c .from .result) (c .jobs-of-more .result) (c .from .ensures ∙ c .cost .ensures) (c .jobs-of-more .ensures .value) (c .loop-other .inv .1),
-     omega (arith, c .jobs-of-more .ensures .bound, c .loop-other .inv .2),
-     omega (arith, product c, c .loop-other .inv .3))
+    let inside = c .loop-other-test .taken in let is = c .other-item .is in (
+      jobs-more tasks task i other inside is (c .args .w) (c .loop-other .count) (c .jobs-of-more .result) (c .jobs-of-more .ensures .value) (c .loop-other .inv .0),
+      ticks-more tasks task i other inside is (c .args .w) (c .loop-other .ticks) (c .from .result) (c .jobs-of-more .result) (c .from .ensures ∙ c .cost .ensures) (c .jobs-of-more .ensures .value) (c .loop-other .inv .1),
+      omega (arith, c .jobs-of-more .ensures .bound, c .loop-other .inv .2),
+      omega (arith, product c, c .loop-other .inv .3),
+    )
 
 pub returns : need.returns
 returns c =

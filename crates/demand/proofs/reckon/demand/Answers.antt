@@ -18,7 +18,7 @@ pub shares-others-requires : need.shares-others-requires
 shares-others-requires g c κs =
     let tasks = c .args .tasks .now in
     let here : rowAt (rowsOf tasks) (c .args .place) ≡ c .index-tasks-place .result .row =
-        row-at tasks (c .args .place) (c .index-tasks-place .result) (c .pre .known) (c .index-tasks-place .is) in
+    row-at tasks (c .args .place) (c .index-tasks-place .result) (c .pre .known) (c .index-tasks-place .is) in
     record {
       few = omega (arith, sym (length-map (c .args .offers .now) listed) ∙ ap length (c .pre .fetched), kept-length (rowAt (rowsOf tasks)) (length (rowsOf tasks)), length-map tasks (λ (t : Task). t .row), c .pre .few);
       near = c .pre .near;

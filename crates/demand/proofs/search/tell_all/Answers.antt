@@ -11,12 +11,13 @@ use Rattle.demand.proofs.search.tell_all.Needs as need
 
 pub loop-place-again : need.loop-place-again
 loop-place-again g c =
-    let meaning = g .B·Arbiter .means .meaning (c .args .arbiter .now) in
-    (told-more (planOf (meaning .ports) (rowsOf (c .args .tasks .now))) (meaning .limit) (c .loop-place .place)
-        (vec-items (c .loop-place .outcomes)) (vec-items (c .push-reserved .last .self)) (c .outcome-of .result)
-        (sym (c .loop-place .outcomes .ok .0) ∙ c .loop-place .inv .1) (c .push-reserved .ensures .items) (c .loop-place .inv .0) (c .outcome-of .ensures),
-     omega (arith, c .push-reserved .ensures .len, c .loop-place .inv .1),
-     c .push-reserved .ensures .capacity ∙ c .loop-place .inv .2)
+    let meaning = g .B·Arbiter .means .meaning (c .args .arbiter .now) in (
+      told-more (planOf (meaning .ports) (rowsOf (c .args .tasks .now))) (meaning .limit) (c .loop-place .place)
+          (vec-items (c .loop-place .outcomes)) (vec-items (c .push-reserved .last .self)) (c .outcome-of .result)
+          (sym (c .loop-place .outcomes .ok .0) ∙ c .loop-place .inv .1) (c .push-reserved .ensures .items) (c .loop-place .inv .0) (c .outcome-of .ensures),
+      omega (arith, c .push-reserved .ensures .len, c .loop-place .inv .1),
+      c .push-reserved .ensures .capacity ∙ c .loop-place .inv .2,
+    )
 
 pub returns : need.returns
 returns g c =

@@ -23,6 +23,9 @@ returns c =
     record {
       value = product ∙ sym (cond-true _ _ _ here);
       after = fewer ∙ sym (cond-true _ _ _ here);
-      bound = omega (arith, short-product (c .from .result) (c .take-count .result) (c .many .result) (omega (arith, c .from .ensures, offer .short))
-          (c .take-count .ensures .bound) (omega (arith, c .many .ensures .bound, c .pre)));
+      bound = omega (
+        arith,
+        short-product (c .from .result) (c .take-count .result) (c .many .result) (omega (arith, c .from .ensures, offer .short))
+            (c .take-count .ensures .bound) (omega (arith, c .many .ensures .bound, c .pre)),
+      );
     }

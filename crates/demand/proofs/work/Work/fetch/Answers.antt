@@ -20,15 +20,16 @@ unreachable-requires c κs =
 pub loop-place-again : need.loop-place-again
 loop-place-again c =
     let rows = c .args .rows .now in let i = c .loop-place .place in
-    let is = c .in-Ok .ensures tt .1 in
-    (tasks-more rows i (vec-items (c .loop-place .self .tasks)) (vec-items (c .push-reserved .last .self)) (c .in-Ok .task) (c .loop-place-test .taken) is
-        (c .loop-place .inv .0) (c .push-reserved .ensures .items),
-     offers-more (rowAt rows) i (vec-items (c .loop-place .self .offers .items)) (vec-items (c .insert .last .self .items)) (vec-items (c .insert-in-loop-place .last .self .items))
-        (c .new-in-loop-place .result) (c .new-in-loop-place-2 .result)
-        (c .new-in-loop-place .ensures ∙ ap (λ row. listing row i A) is) (c .new-in-loop-place-2 .ensures ∙ ap (λ row. listing row i R) is)
-        (c .loop-place .inv .1) (c .insert .ensures .items offerOrder) (c .insert-in-loop-place .ensures .items offerOrder),
-     omega (arith, c .push-reserved .ensures .len, c .loop-place .inv .2),
-     omega (arith, c .insert .ensures .len, c .insert-in-loop-place .ensures .len, c .loop-place .inv .3))
+    let is = c .in-Ok .ensures tt .1 in (
+      tasks-more rows i (vec-items (c .loop-place .self .tasks)) (vec-items (c .push-reserved .last .self)) (c .in-Ok .task) (c .loop-place-test .taken) is
+          (c .loop-place .inv .0) (c .push-reserved .ensures .items),
+      offers-more (rowAt rows) i (vec-items (c .loop-place .self .offers .items)) (vec-items (c .insert .last .self .items)) (vec-items (c .insert-in-loop-place .last .self .items))
+          (c .new-in-loop-place .result) (c .new-in-loop-place-2 .result)
+          (c .new-in-loop-place .ensures ∙ ap (λ row. listing row i A) is) (c .new-in-loop-place-2 .ensures ∙ ap (λ row. listing row i R) is)
+          (c .loop-place .inv .1) (c .insert .ensures .items offerOrder) (c .insert-in-loop-place .ensures .items offerOrder),
+      omega (arith, c .push-reserved .ensures .len, c .loop-place .inv .2),
+      omega (arith, c .insert .ensures .len, c .insert-in-loop-place .ensures .len, c .loop-place .inv .3),
+    )
 
 pub returns : need.returns
 returns c =

@@ -1,9 +1,9 @@
-use mathlib.Core.Path.{sym, subst}
+use mathlib.Core.Path.{sym, ap, _∙_, subst}
 use Prim.Native.Nat.{_≤_}
 use native.Mathlib.Omega.{arith}
 use borrow.Author.Needs.{needs}
 use Rattle.std.specs.Of.Vec.{vec-items, vec-len}
-use Rattle.rules.specs.Rules.{EachATask, AllApart}
+use Rattle.rules.specs.Rules.{addVerdict, EachATask, AllApart}
 use Rattle.rules.proofs.Kept.{addable, added-each, added-apart}
 use Rattle.settler.proofs.plan.Plan.add.Needs as need
 
@@ -12,7 +12,8 @@ ghost-self c =
     let cores = c .args .self .now .platform .cores in
     let rows = vec-items (c .args .self .now .rows) in
     let row = c .args .row in
-    let ok = addable cores rows row (sym (c .in-Continue-judge-add .ensures tt)) in
+    let judged = c .in-Continue-judge-add .ensures tt in
+    let ok = addable cores rows row (ap (λ rs. addVerdict cores rs row) (sym (c .as-slice .ensures .value)) ∙ sym judged) in
     let pushed = c .push-reserved .ensures .items in
     let each : EachATask cores (vec-items (c .push-reserved .last .self)) =
     subst (EachATask cores) (sym pushed) (added-each cores rows row (c .args .self .now .«tasks_ok») ok) in
