@@ -1,0 +1,1 @@
+-- What a record holds: a platform or a task. Assumes nothing.

@@ -1,0 +1,2 @@
+// Sheets: a plan as bytes.
+pub mod reader;
