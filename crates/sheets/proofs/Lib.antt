@@ -1,1 +1,2 @@
 mod Heads
+mod Platforms

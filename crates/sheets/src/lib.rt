@@ -1,2 +1,3 @@
 // Sheets: a plan as bytes.
+pub mod entry;
 pub mod reader;
