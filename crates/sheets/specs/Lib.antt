@@ -1,3 +1,5 @@
 pub mod Bytes
 pub mod Records
 pub mod Entries
+pub mod Spelled
+pub mod Answers
