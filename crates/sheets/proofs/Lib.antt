@@ -1,2 +1,3 @@
 mod Heads
 mod Platforms
+mod Gathering

@@ -77,7 +77,7 @@ grown cores rows (Ok (Some placed)) rest = judged (addVerdict cores rows (placed
 grown cores rows (Err spot) rest = Err (sheetFault spot)
 
 -- the rows of the records from a place on, after those that are there; the first number bounds how many records are looked at
-abbrev pub rowsFrom : ℕ → ℕ → List ℕ → ℕ → List Row → Result (List Row) Mistake
+unfoldable pub rowsFrom : ℕ → ℕ → List ℕ → ℕ → List Row → Result (List Row) Mistake
 rowsFrom zero cores sheet p rows = Ok rows
 rowsFrom (suc more) cores sheet p rows =
     grown cores rows (taskRecord (recordAt sheet p)) (rowsFrom more cores sheet (placeAfter (recordAt sheet p) p))

@@ -2,6 +2,8 @@
 use tasks::refusal::Refusal;
 use tasks::refusal::RefusalDebug;
 
+pub mod load;
+
 // Who found a fault: the sheet, for 1 to 4, or the plan, for the rest.
 #[derive(Clone, Copy, PartialEq, Eq, Debug)]
 pub enum Layer {
