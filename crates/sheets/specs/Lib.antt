@@ -3,3 +3,4 @@ pub mod Records
 pub mod Entries
 pub mod Spelled
 pub mod Answers
+pub mod Written

@@ -1,0 +1,2 @@
+mod Before
+mod Chains
