@@ -12,6 +12,7 @@ use tasks::task::Row;
 
 pub mod edits;
 pub mod settling;
+pub mod sheet;
 
 // Rows are kept in the order of adding. What its ghost fields say holds of every plan: a plan cannot hold a wrong task.
 #[derive(Drop)]
@@ -21,7 +22,10 @@ pub struct Plan {
     // one for each row, as long as `settled` says so
     outcomes: Vec<Outcome>,
     settled: bool,
+    // working memory: no content of the plan
     work: Work,
+    spare: Vec<Row>,
+    text: Vec<u8>,
     ghost platform_ok: { coresFit (platform .cores) (favoured (platform .line .favours)) ≡ true },
     ghost few: { vec-len rows ≤ 64 },
     ghost tasks_ok: { EachATask (platform .cores) (vec-items rows) },
@@ -30,4 +34,6 @@ pub struct Plan {
     // what open reserved, so that no later call asks for memory
     ghost row_room: { 64 ≤ vec-cap rows },
     ghost outcome_room: { 64 ≤ vec-cap outcomes },
+    ghost spare_room: { 64 ≤ vec-cap spare },
+    ghost text_room: { 8192 ≤ vec-cap text },
 }

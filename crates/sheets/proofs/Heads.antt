@@ -18,7 +18,7 @@ pub headed : (rest : List ℕ) (p n : ℕ) → 3 ≤ length rest → n ≡ two r
     → _≡_ {A = Result Part Spot} (Ok (record { place = p; kind = getD rest 2 0; body = take (n - 1 - 0) (take (length rest - 3) (drop 3 rest)) })) (headOf rest p)
 headed rest p n room is some fits =
     let body : take (n - 1 - 0) (take (length rest - 3) (drop 3 rest)) ≡ take (two rest 0 - 1) (drop 3 rest) =
-        ap (take (n - 1 - 0)) (take-rest rest 3) ∙ ap (λ m. take m (drop 3 rest)) (omega (arith, is)) in
+    ap (take (n - 1 - 0)) (take-rest rest 3) ∙ ap (λ m. take m (drop 3 rest)) (omega (arith, is)) in
     rw (le-ltb (length rest) 2 (omega arith), ne-eqb (two rest 0) 0 (λ z. some (is ∙ z)), le-ltb (length rest) (2 + two rest 0) (omega (arith, is)), body) refl
 
 pub not-empty : (rest : List ℕ) (n : ℕ) → 3 ≤ length rest → n ≡ two rest 0 → (leb 2 (length rest) && eqb (two rest 0) 0) ≡ false → n ≡ 0 → ⊥

@@ -1,3 +1,4 @@
 mod Heads
 mod Platforms
 mod Gathering
+pub mod Loaded

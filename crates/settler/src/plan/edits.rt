@@ -1,9 +1,11 @@
 // Making a plan, and editing it. An accepted edit takes away what was settled; a refused one changes nothing.
 ghost use mathlib.Core.Path.{_≡_};
+ghost use mathlib.Core.Bool.{true};
 ghost use mathlib.Core.Logic.{_⊎_};
 ghost use Rattle.std.specs.Of.Vec.{vec-len, vec-items};
 ghost use Rattle.std.specs.Results.{Cases};
 ghost use Rattle.std.specs.declared.result.Result.the-variants.{Ok, Err};
+ghost use Rattle.tasks.specs.Platforms.{coresFit, bottomNumber, favoured};
 ghost use Rattle.tasks.specs.Refusals.{told, answer, no-memory};
 ghost use Rattle.rules.specs.Rules.{openVerdict, addVerdict, removeVerdict, changeVerdict, withRow, without, replaced};
 ghost use Rattle.settler.specs.Contents.{content, empty, edited};
@@ -13,6 +15,7 @@ use rules::judge::MOST_TASKS;
 use rules::judge::judge_add;
 use rules::judge::judge_change;
 use rules::lookup::place_of;
+use std::alloc::AllocError;
 use std::alloc::Global;
 use tasks::platform::BusLine;
 use tasks::platform::Platform;
@@ -26,22 +29,10 @@ impl Plan {
     {
         let line = BusLine::new(bottom, favours)?;
         let platform = Platform::new(cores, line)?;
-        let Ok(rows) = Vec::with_capacity(heap, MOST_TASKS) else {
-            return Err(Refusal::Memory);
-        };
-        let Ok(outcomes) = Vec::with_capacity(heap, MOST_TASKS) else {
-            return Err(Refusal::Memory);
-        };
-        let Ok(work) = Work::new(heap) else {
-            return Err(Refusal::Memory);
-        };
-        Ok(Plan {
-            platform,
-            rows,
-            outcomes,
-            settled: false,
-            work,
-        })
+        match reserved(heap, platform) {
+            Ok(plan) => Ok(plan),
+            Err(AllocError) => Err(Refusal::Memory),
+        }
     }
 
     // A new task, after those that are there: 6, 7, 9, 10, 11, 12.
@@ -78,4 +69,20 @@ impl Plan {
         self.settled = false;
         Ok(())
     }
+}
+
+// An empty plan with room for all that its calls will ever need.
+fn reserved(heap: Global, platform: Platform) -> Result<Plan, AllocError>
+    requires { ⌜ coresFit (platform .cores) (favoured (platform .line .favours)) ≡ true ⌝ }
+    ensures { λ r. ⌜ Cases r (λ plan. content plan ≡ empty (platform .cores) (bottomNumber (platform .line .bottom)) (favoured (platform .line .favours))) (λ _. Unit {0}) ⌝ }
+{
+    Ok(Plan {
+        platform,
+        rows: Vec::with_capacity(heap, MOST_TASKS)?,
+        outcomes: Vec::with_capacity(heap, MOST_TASKS)?,
+        settled: false,
+        work: Work::new(heap)?,
+        spare: Vec::with_capacity(heap, MOST_TASKS)?,
+        text: Vec::with_capacity(heap, 8192)?,
+    })
 }

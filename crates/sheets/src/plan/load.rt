@@ -18,10 +18,10 @@ ghost use Rattle.sheets.specs.Spelled.{Mistake, headIn, taskRecord, grown, row
 ghost use Rattle.sheets.specs.Answers.{startSeen, mistake, advanced, gathered, planSeen};
 use crate::entry::BadRecord;
 use crate::entry::read::BadRecordFromMisread;
-use crate::order::first;
-use crate::order::later;
 use crate::order::Listed;
 use crate::order::Start;
+use crate::order::first;
+use crate::order::later;
 use crate::plan::Fault;
 use crate::plan::Layer;
 use crate::reader::Reader;

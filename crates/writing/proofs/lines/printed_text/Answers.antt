@@ -20,11 +20,12 @@ loop-i-again c =
     let rows = c .args .rows .now in let outcomes = c .args .outcomes .now in
     let inside : c .loop-i .i < length outcomes = omega (arith, c .loop-i-test .taken, c .pre .all) in
     let added : vec-items (c .add-line .last .text) ≡ vec-items (c .loop-i .text) ++ line (getD rows (c .loop-i .i) noRow) (getD outcomes (c .loop-i .i) (Late 0)) =
-        c .add-line .ensures .items ∙ ap (λ o. vec-items (c .loop-i .text) ++ line (getD rows (c .loop-i .i) noRow) o) (getD-default outcomes (c .loop-i .i) _ (Late 0) inside) in
-    (line-more rows outcomes (c .loop-i .i) (vec-items (c .loop-i .text)) (vec-items (c .add-line .last .text)) added (c .loop-i .inv .0),
-     omega (arith, c .add-line .ensures .len, c .loop-i .inv .1),
-     omega (arith, c .add-line .ensures .room, c .loop-i .inv .2),
-     omega (arith, c .add-line .ensures .room, c .loop-i .inv .3))
+    c .add-line .ensures .items ∙ ap (λ o. vec-items (c .loop-i .text) ++ line (getD rows (c .loop-i .i) noRow) o) (getD-default outcomes (c .loop-i .i) _ (Late 0) inside) in (
+      line-more rows outcomes (c .loop-i .i) (vec-items (c .loop-i .text)) (vec-items (c .add-line .last .text)) added (c .loop-i .inv .0),
+      omega (arith, c .add-line .ensures .len, c .loop-i .inv .1),
+      omega (arith, c .add-line .ensures .room, c .loop-i .inv .2),
+      omega (arith, c .add-line .ensures .room, c .loop-i .inv .3),
+    )
 
 pub returns : need.returns
 returns c =
@@ -32,7 +33,7 @@ returns c =
     let all : c .loop-i .i ≡ length rows = omega arith in
     let count = c .add-number .ensures .items ∙ ap (λ n. vec-items (c .add .last .text) ++ decimal n) (c .late-count .ensures) in
     let told = earlier (vec-items (c .loop-i .text)) (codes "late ") (decimal (lateCount outcomes) ++ (10 ∷ [])) (c .add .ensures .items)
-        (earlier (vec-items (c .add .last .text)) (decimal (lateCount outcomes)) (10 ∷ []) count (c .add-2 .ensures .items)) in
+    (earlier (vec-items (c .add .last .text)) (decimal (lateCount outcomes)) (10 ∷ []) count (c .add-2 .ensures .items)) in
     record {
       items = told ∙ ap (λ xs. xs ++ lastLine outcomes) (c .loop-i .inv .0) ∙ ap (λ n. firstLines rows outcomes n ++ lastLine outcomes) all;
       room = search needs;

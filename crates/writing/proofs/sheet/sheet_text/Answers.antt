@@ -9,12 +9,13 @@ use Rattle.writing.proofs.Chains.{task-more, tasks-all}
 use Rattle.writing.proofs.sheet.sheet_text.Needs as need
 
 pub loop-row-again : need.loop-row-again
-loop-row-again c =
-    (task-more (c .args .rows .now) (c .loop-row .row-index) (vec-items (c .loop-row .text)) (vec-items (c .add-task .last .text)) _ (c .loop-row-test .taken)
-        (c .add-task .ensures .items) (c .loop-row .inv .0),
-     omega (arith, c .add-task .ensures .len, c .loop-row .inv .1),
-     omega (arith, c .add-task .ensures .room, c .loop-row .inv .2),
-     omega (arith, c .add-task .ensures .room, c .loop-row .inv .3))
+loop-row-again c = (
+  task-more (c .args .rows .now) (c .loop-row .row-index) (vec-items (c .loop-row .text)) (vec-items (c .add-task .last .text)) _ (c .loop-row-test .taken)
+      (c .add-task .ensures .items) (c .loop-row .inv .0),
+  omega (arith, c .add-task .ensures .len, c .loop-row .inv .1),
+  omega (arith, c .add-task .ensures .room, c .loop-row .inv .2),
+  omega (arith, c .add-task .ensures .room, c .loop-row .inv .3),
+)
 
 pub returns : need.returns
 returns c =

@@ -20,4 +20,4 @@ ghost-self c =
     let all : AllApart (vec-items (c .push-reserved .last .self)) =
     subst AllApart (sym pushed) (added-apart cores rows row (c .args .self .now .«all_apart») ok) in
     let few : vec-len (c .push-reserved .last .self) ≤ 64 = omega (arith, ok .room, c .push-reserved .ensures .len, c .args .self .now .rows .ok .0) in
-    (search needs, (few, (each, (all, (search needs, (search needs, (search needs, tt)))))))
+    (search needs, (few, (each, (all, search needs))))

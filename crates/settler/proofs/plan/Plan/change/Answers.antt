@@ -25,4 +25,4 @@ ghost-self c =
     let ok = changeable cores rows row (ap (λ rs. changeVerdict cores rs row) same ∙ c .in-Continue-i .ensures tt .0) in
     let each = changed-each cores rows i row (c .args .self .now .«tasks_ok») ok in
     let all = changed-apart cores rows i row (c .args .self .now .«all_apart») ok (omega (arith, found .1)) (rw sub-zero at (found .2)) in
-    (search needs, (search needs, (each, (all, (search needs, (search needs, (search needs, tt)))))))
+    (search needs, (search needs, (each, (all, search needs))))

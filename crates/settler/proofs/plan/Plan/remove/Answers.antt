@@ -24,4 +24,4 @@ ghost-self c =
     let one : length after + 1 ≡ length before = omega (arith, c .remove .ensures .len, c .args .self .now .rows .ok .0, c .remove .last .self .ok .0) in
     let each : EachATask cores after = removed-each before after (c .in-Some .i) (c .remove .ensures .places .0) (c .remove .ensures .places .1) one cores (c .args .self .now .«tasks_ok») in
     let all : AllApart after = removed-apart before after (c .in-Some .i) (c .remove .ensures .places .0) (c .remove .ensures .places .1) one (c .args .self .now .«all_apart») in
-    (search needs, (search needs, (each, (all, (search needs, (search needs, (search needs, tt)))))))
+    (search needs, (search needs, (each, (all, search needs))))

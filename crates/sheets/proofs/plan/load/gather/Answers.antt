@@ -24,14 +24,17 @@ loop-more-again c =
     let true-more = c .if-not-more .left in
     let on = said .further (ap Ok true-more) in
     let rest = rowsFrom (more - 1) (c .args .cores) sheet (placeAfter (recordAt sheet p) p) in
-    let size = ap length (said .sheet) in
-    ((more - 1,
-      omega (arith, size, still-enough (length sheet) p (c .advance .last .reader .place) more enough (on .0) (on .1)),
-      goes-on-with more (c .args .cores) sheet p (vec-items (c .loop-more .rows)) _ (omega (arith, enough)) (c .loop-more .inv .0 .2)
-          (c .advance .last .reader .sheet .now) (c .advance .last .reader .place) (vec-items (c .advance .last .rows)) (said .sheet) (said .place)
-          (said .value rest ∙ ap (λ b. advanced (Ok b) (vec-items (c .advance .last .rows)) rest) true-more)),
-     omega (arith, said .room, c .loop-more .inv .1),
-     said .room ∙ c .loop-more .inv .2)
+    let size = ap length (said .sheet) in (
+      (
+        more - 1,
+        omega (arith, size, still-enough (length sheet) p (c .advance .last .reader .place) more enough (on .0) (on .1)),
+        goes-on-with more (c .args .cores) sheet p (vec-items (c .loop-more .rows)) _ (omega (arith, enough)) (c .loop-more .inv .0 .2)
+            (c .advance .last .reader .sheet .now) (c .advance .last .reader .place) (vec-items (c .advance .last .rows)) (said .sheet) (said .place)
+            (said .value rest ∙ ap (λ b. advanced (Ok b) (vec-items (c .advance .last .rows)) rest) true-more),
+      ),
+      omega (arith, said .room, c .loop-more .inv .1),
+      said .room ∙ c .loop-more .inv .2,
+    )
 
 pub returns-then-not-more : need.returns-then-not-more
 returns-then-not-more c =

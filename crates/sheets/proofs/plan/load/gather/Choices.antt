@@ -9,8 +9,8 @@ use Rattle.sheets.proofs.plan.load.gather.Given as given
 abbrev pub Inv-loop-more : given.InvT-loop-more
 Inv-loop-more l =
     ((more : ℕ) × (length (l .reader .sheet .now) - l .reader .place < more)
-        × (rowsFrom more (l .cores) (l .reader .sheet .now) (l .reader .place) (vec-items (l .rows))
-            ≡ rowsFrom (suc (length (l .entry .reader .sheet .now))) (l .cores) (l .entry .reader .sheet .now) (l .entry .reader .place) []))
+    × (rowsFrom more (l .cores) (l .reader .sheet .now) (l .reader .place) (vec-items (l .rows))
+    ≡ rowsFrom (suc (length (l .entry .reader .sheet .now))) (l .cores) (l .entry .reader .sheet .now) (l .entry .reader .place) []))
     × (64 ≤ vec-cap (l .rows)) × (vec-cap (l .rows) ≡ vec-cap (l .entry .rows))
 
 abbrev pub μ-loop-more : given.MeasureT-loop-more
