@@ -4,7 +4,7 @@ use bus::arbiter::Arbiter;
 use tasks::limit::Limit;
 use tasks::refusal::Refusal;
 
-#[derive(Drop, Debug)]
+#[derive(Drop)]
 pub enum Either<X, Y> {
     First(X),
     Second(Y),

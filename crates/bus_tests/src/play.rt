@@ -1,5 +1,7 @@
 // A table of calls on an arbiter, each with its answer.
 use bus::arbiter::Arbiter;
+use favour::Favour;
+use favour::WhyUnmade;
 use std::test::*;
 use tasks::limit::Limit;
 use tasks::limit::LimitDebug;
@@ -55,11 +57,16 @@ pub fn play<B: Arbiter>(bus: &mut B, steps: &[Step]) -> Result<(), Fail> {
     Ok(())
 }
 
-// From idle to idle.
-pub fn play_out<B: Arbiter>(mut bus: B, steps: &[Step]) -> Result<(), Fail> {
+// A table on an arbiter that was just made, from idle to idle.
+pub fn table<B: Arbiter>(made: Result<B, Refusal>, steps: &[Step]) -> Result<(), Fail> {
+    let mut bus = made?;
     check(bus.idle())?;
     play(&mut bus, steps)?;
     check(bus.idle())
+}
+
+pub fn favoured<B: Arbiter>(below: Result<B, Refusal>, port: u8) -> Result<Favour<B>, Refusal> {
+    Ok(Favour::new(below?, port)?)
 }
 
 // All 16 ports join, the highest first.
@@ -71,11 +78,15 @@ fn all_join<B: Arbiter>(bus: &mut B) -> Result<(), Fail> {
 }
 
 // All 16 ports join, the highest first, and are served, the highest or the lowest first.
-pub fn all_served<B: Arbiter>(bus: &mut B, highest_first: bool) -> Result<(), Fail> {
-    all_join(bus)?;
+pub fn all_served<B: Arbiter>(made: Result<B, Refusal>, highest_first: bool) -> Result<(), Fail> {
+    let mut bus = made?;
+    all_join(&mut bus)?;
     for a in 0..16u8 {
-        turn(bus, Step::Grants(if highest_first { 15 - a } else { a }))?;
-        turn(bus, Step::Ends)?;
+        turn(
+            &mut bus,
+            Step::Grants(if highest_first { 15 - a } else { a }),
+        )?;
+        turn(&mut bus, Step::Ends)?;
     }
     check(bus.idle())
 }

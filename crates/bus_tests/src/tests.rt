@@ -1,100 +1,187 @@
 // What each arbiter does, table by table.
 use crate::play::Step::*;
 use crate::play::all_served;
+use crate::play::favoured;
 use crate::play::number;
 use crate::play::play;
-use crate::play::play_out;
+use crate::play::table;
 use bus::arbiter::Arbiter;
 use bus_line::either::Either;
 use bus_line::either::EitherArbiter;
-use bus_line::either::EitherDebug;
 use bus_line::line::Bus;
 use favour::Favour;
 use favour::FavourArbiter;
-use favour::FavourDebug;
-use favour::UnmadeDebug;
 use makers_arbiter::Batches;
-use makers_arbiter::BatchesDebug;
 use makers_arbiter::calls::BatchesArbiter;
 use queue::Queue;
-use queue::QueueDebug;
 use queue::calls::QueueArbiter;
 use round_robin::RoundRobin;
-use round_robin::RoundRobinDebug;
 use round_robin::calls::RoundRobinArbiter;
 use std::test::*;
 use tasks::limit::Limit;
 use tasks::platform::Bottom;
 use tasks::platform::BusLine;
 use tasks::platform::Favours;
+use tasks::refusal::Refusal;
 use tasks::refusal::RefusalDebug;
 
 #[test]
 fn queue_serves_in_the_order_of_joining() -> Result<(), Fail> {
-    play_out(
-        Queue::new(4)?,
+    table(
+        Queue::new(4),
         &[
-            Joins(2), Joins(0), Joins(3), Idle(false), Grants(2), Joins(1), Ends, Grants(0), Ends, Joins(2),
-            Grants(3), Ends, Grants(1), Ends, Grants(2), Idle(false), Ends, Limits(0, 3, Limit::Phases(1)),
+            Joins(2),
+            Joins(0),
+            Joins(3),
+            Idle(false),
+            Grants(2),
+            Joins(1),
+            Ends,
+            Grants(0),
+            Ends,
+            Joins(2),
+            Grants(3),
+            Ends,
+            Grants(1),
+            Ends,
+            Grants(2),
+            Idle(false),
+            Ends,
+            Limits(0, 3, Limit::Phases(1)),
         ],
     )
 }
 
 #[test]
 fn queue_takes_every_port() -> Result<(), Fail> {
-    let mut bus = Queue::new(16)?;
-    all_served(&mut bus, true)?;
-    all_served(&mut bus, true)
+    all_served(Queue::new(16), true)
 }
 
 #[test]
 fn ring_of_one() -> Result<(), Fail> {
-    play_out(
-        RoundRobin::new(1)?,
-        &[Joins(0), Grants(0), NoJoin(0, 15), Ends, Joins(0), Grants(0), Ends, NoGrant(16)],
+    table(
+        RoundRobin::new(1),
+        &[
+            Joins(0),
+            Grants(0),
+            NoJoin(0, 15),
+            Ends,
+            Joins(0),
+            Grants(0),
+            Ends,
+            NoGrant(16),
+        ],
     )
 }
 
 #[test]
 fn ring_of_three() -> Result<(), Fail> {
     // Before any grant the count starts at 0; then it starts one past the last granted.
-    play_out(
-        RoundRobin::new(3)?,
+    table(
+        RoundRobin::new(3),
         &[
-            Joins(2), Joins(0), Grants(0), Joins(1), Ends, Joins(0), Grants(1), Ends, Grants(2), Ends, Grants(0), Ends,
-            Joins(0), Joins(2), Grants(2), Ends, Grants(0), Ends, Limits(2, 0, Limit::Phases(1)),
+            Joins(2),
+            Joins(0),
+            Grants(0),
+            Joins(1),
+            Ends,
+            Joins(0),
+            Grants(1),
+            Ends,
+            Grants(2),
+            Ends,
+            Grants(0),
+            Ends,
+            Joins(0),
+            Joins(2),
+            Grants(2),
+            Ends,
+            Grants(0),
+            Ends,
+            Limits(2, 0, Limit::Phases(1)),
         ],
     )
 }
 
 #[test]
 fn ring_of_sixteen() -> Result<(), Fail> {
-    let mut bus = RoundRobin::new(16)?;
     // From the last port the count goes on at 0.
-    play(&mut bus, &[Joins(15), Grants(15), Joins(14), Joins(0), Ends, Joins(15)])?;
-    play(&mut bus, &[Grants(0), Ends, Grants(14), Ends, Grants(15), Ends])?;
-    all_served(&mut bus, false)
+    table(
+        RoundRobin::new(16),
+        &[
+            Joins(15),
+            Grants(15),
+            Joins(14),
+            Joins(0),
+            Ends,
+            Joins(15),
+            Grants(0),
+            Ends,
+            Grants(14),
+            Ends,
+            Grants(15),
+            Ends,
+        ],
+    )
+}
+
+#[test]
+fn ring_takes_every_port() -> Result<(), Fail> {
+    all_served(RoundRobin::new(16), false)
 }
 
 #[test]
 fn one_favour() -> Result<(), Fail> {
-    play_out(
-        Favour::new(Queue::new(3)?, 1)?,
+    table(
+        favoured(Queue::new(3), 1),
         &[
-            Joins(0), Joins(2), Joins(1), Grants(1), Ends, Joins(1), Grants(1), Ends, Grants(0), Joins(1), Ends,
-            Joins(0), Grants(1), Ends, Grants(2), Ends, Grants(0), Ends, Limits(0, 1, Limit::Unlimited),
-            Limits(1, 0, Limit::Phases(1)), Limits(0, 2, Limit::Phases(1)),
+            Joins(0),
+            Joins(2),
+            Joins(1),
+            Grants(1),
+            Ends,
+            Joins(1),
+            Grants(1),
+            Ends,
+            Grants(0),
+            Joins(1),
+            Ends,
+            Joins(0),
+            Grants(1),
+            Ends,
+            Grants(2),
+            Ends,
+            Grants(0),
+            Ends,
+            Limits(0, 1, Limit::Unlimited),
+            Limits(1, 0, Limit::Phases(1)),
+            Limits(0, 2, Limit::Phases(1)),
         ],
     )
 }
 
 #[test]
 fn two_favours() -> Result<(), Fail> {
-    play_out(
-        Favour::new(Favour::new(RoundRobin::new(4)?, 2)?, 3)?,
+    table(
+        favoured(favoured(RoundRobin::new(4), 2), 3),
         &[
-            Joins(1), Joins(0), Joins(2), Joins(3), Grants(3), Ends, Grants(2), Ends, Grants(0), Joins(2), Ends,
-            Grants(2), Ends, Grants(1), Ends, Limits(2, 3, Limit::Unlimited), Limits(3, 2, Limit::Phases(1)),
+            Joins(1),
+            Joins(0),
+            Joins(2),
+            Joins(3),
+            Grants(3),
+            Ends,
+            Grants(2),
+            Ends,
+            Grants(0),
+            Joins(2),
+            Ends,
+            Grants(2),
+            Ends,
+            Grants(1),
+            Ends,
+            Limits(2, 3, Limit::Unlimited),
+            Limits(3, 2, Limit::Phases(1)),
             Limits(0, 2, Limit::Unlimited),
         ],
     )
@@ -102,11 +189,20 @@ fn two_favours() -> Result<(), Fail> {
 
 #[test]
 fn a_favour_twice_on_one_port() -> Result<(), Fail> {
-    play_out(
-        Favour::new(Favour::new(Queue::new(3)?, 1)?, 1)?,
+    table(
+        favoured(favoured(Queue::new(3), 1), 1),
         &[
-            Joins(2), Joins(1), NoJoin(1, 15), Grants(1), NoJoin(1, 15), NoGrant(17), Ends, Grants(2), Ends,
-            Limits(0, 1, Limit::Unlimited), Limits(1, 0, Limit::Phases(1)),
+            Joins(2),
+            Joins(1),
+            NoJoin(1, 15),
+            Grants(1),
+            NoJoin(1, 15),
+            NoGrant(17),
+            Ends,
+            Grants(2),
+            Ends,
+            Limits(0, 1, Limit::Unlimited),
+            Limits(1, 0, Limit::Phases(1)),
         ],
     )
 }
@@ -114,39 +210,76 @@ fn a_favour_twice_on_one_port() -> Result<(), Fail> {
 #[test]
 fn batches() -> Result<(), Fail> {
     // 0 and 3 join while the batch of 1 and 2 is served: they make the next one.
-    play_out(
-        Batches::new(4)?,
+    table(
+        Batches::new(4),
         &[
-            Joins(2), Joins(1), Grants(1), Joins(0), Ends, Grants(2), Joins(3), Ends, Grants(0), Joins(1), Ends,
-            Joins(0), Grants(3), Ends, Grants(0), Ends, Grants(1), Ends, Limits(0, 1, Limit::Phases(2)),
+            Joins(2),
+            Joins(1),
+            Grants(1),
+            Joins(0),
+            Ends,
+            Grants(2),
+            Joins(3),
+            Ends,
+            Grants(0),
+            Joins(1),
+            Ends,
+            Joins(0),
+            Grants(3),
+            Ends,
+            Grants(0),
+            Ends,
+            Grants(1),
+            Ends,
+            Limits(0, 1, Limit::Phases(2)),
         ],
     )
 }
 
 // Each refusal of a call alone, and with one that is judged later: nobody waits during a service, which is 16 before 17.
-fn refusals<B: Arbiter>(bus: B) -> Result<(), Fail> {
-    play_out(
-        bus,
+fn refusals<B: Arbiter>(made: Result<B, Refusal>) -> Result<(), Fail> {
+    table(
+        made,
         &[
-            NoEnd(18), NoGrant(16), NoJoin(3, 6), NoJoin(255, 6), Joins(2), NoJoin(2, 15), NoJoin(3, 6), NoEnd(18),
-            Grants(2), NoJoin(2, 15), NoJoin(3, 6), NoGrant(16), Joins(0), NoGrant(17), Ends, Grants(0), Ends,
-            NoEnd(18), NoGrant(16), NoLimit(3, 0, 6), NoLimit(0, 3, 6), NoLimit(1, 1, 6), NoLimit(3, 3, 6),
+            NoEnd(18),
+            NoGrant(16),
+            NoJoin(3, 6),
+            NoJoin(255, 6),
+            Joins(2),
+            NoJoin(2, 15),
+            NoJoin(3, 6),
+            NoEnd(18),
+            Grants(2),
+            NoJoin(2, 15),
+            NoJoin(3, 6),
+            NoGrant(16),
+            Joins(0),
+            NoGrant(17),
+            Ends,
+            Grants(0),
+            Ends,
+            NoEnd(18),
+            NoGrant(16),
+            NoLimit(3, 0, 6),
+            NoLimit(0, 3, 6),
+            NoLimit(1, 1, 6),
+            NoLimit(3, 3, 6),
         ],
     )
 }
 
 #[test]
 fn refusals_of_calls() -> Result<(), Fail> {
-    refusals(Queue::new(3)?)?;
-    refusals(RoundRobin::new(3)?)?;
-    refusals(Batches::new(3)?)
+    refusals(Queue::new(3))?;
+    refusals(RoundRobin::new(3))?;
+    refusals(Batches::new(3))
 }
 
 #[test]
 fn refusals_of_calls_on_favours() -> Result<(), Fail> {
-    refusals(Favour::new(Queue::new(3)?, 2)?)?;
-    refusals(Favour::new(RoundRobin::new(3)?, 0)?)?;
-    refusals(Favour::new(Favour::new(Batches::new(3)?, 0)?, 2)?)
+    refusals(favoured(Queue::new(3), 2))?;
+    refusals(favoured(RoundRobin::new(3), 0))?;
+    refusals(favoured(favoured(Batches::new(3), 0), 2))
 }
 
 #[test]
@@ -176,35 +309,84 @@ fn a_refused_favour_hands_the_arbiter_back() -> Result<(), Fail> {
     play(&mut back, &[Grants(2), Ends, Grants(1), Ends])
 }
 
-fn line(bottom: Bottom, favours: Favours) -> BusLine {
-    BusLine { bottom, favours }
+fn made(bottom: Bottom, favours: Favours, ports: u8) -> Result<Bus, Refusal> {
+    Bus::new(BusLine { bottom, favours }, ports)
 }
 
 #[test]
 fn bus_lines() -> Result<(), Fail> {
-    let plain = Bus::new(line(Bottom::Queue, Favours::Nobody), 3)?;
-    play_out(plain, &[Joins(2), Joins(1), Joins(0), Grants(2), Ends, Grants(1), Ends, Grants(0), Ends])?;
-    let ring = Bus::new(line(Bottom::RoundRobin, Favours::One(1)), 3)?;
-    play_out(ring, &[Joins(2), Joins(1), Joins(0), Grants(1), Ends, Grants(0), Ends, Grants(2), Ends])?;
-    let both = Bus::new(line(Bottom::Queue, Favours::Two(0, 1)), 3)?;
-    play_out(both, &[Joins(2), Joins(1), Joins(0), Grants(0), Ends, Grants(1), Ends, Grants(2), Ends])
+    table(
+        made(Bottom::Queue, Favours::Nobody, 3),
+        &[
+            Joins(2),
+            Joins(1),
+            Joins(0),
+            Grants(2),
+            Ends,
+            Grants(1),
+            Ends,
+            Grants(0),
+            Ends,
+        ],
+    )?;
+    table(
+        made(Bottom::RoundRobin, Favours::One(1), 3),
+        &[
+            Joins(2),
+            Joins(1),
+            Joins(0),
+            Grants(1),
+            Ends,
+            Grants(0),
+            Ends,
+            Grants(2),
+            Ends,
+        ],
+    )?;
+    table(
+        made(Bottom::Queue, Favours::Two(0, 1), 3),
+        &[
+            Joins(2),
+            Joins(1),
+            Joins(0),
+            Grants(0),
+            Ends,
+            Grants(1),
+            Ends,
+            Grants(2),
+            Ends,
+        ],
+    )
 }
 
 #[test]
 fn bus_lines_refused() -> Result<(), Fail> {
-    check_eq(number(Bus::new(line(Bottom::Queue, Favours::Nobody), 0)), 6)?;
-    check_eq(number(Bus::new(line(Bottom::RoundRobin, Favours::Nobody), 17)), 6)?;
-    check_eq(number(Bus::new(line(Bottom::Queue, Favours::One(3)), 3)), 6)?;
-    check_eq(number(Bus::new(line(Bottom::Queue, Favours::Two(0, 3)), 3)), 6)?;
-    refusals(Bus::new(line(Bottom::Queue, Favours::Two(0, 2)), 3)?)
+    check_eq(number(made(Bottom::Queue, Favours::Nobody, 0)), 6)?;
+    check_eq(number(made(Bottom::RoundRobin, Favours::Nobody, 17)), 6)?;
+    check_eq(number(made(Bottom::Queue, Favours::One(3), 3)), 6)?;
+    check_eq(number(made(Bottom::Queue, Favours::Two(0, 3), 3)), 6)?;
+    refusals(made(Bottom::Queue, Favours::Two(0, 2), 3))
 }
 
 #[test]
 fn one_list_of_different_arbiters() -> Result<(), Fail> {
-    let ring = Bus::new(line(Bottom::RoundRobin, Favours::Nobody), 2)?;
+    let ring = made(Bottom::RoundRobin, Favours::Nobody, 2)?;
     let mut buses = [Either::First(ring), Either::Second(Batches::new(2)?)];
     for bus in buses.iter_mut() {
-        play(bus, &[Joins(1), Joins(0), Grants(0), Ends, Joins(0), Grants(1), Ends, Grants(0), Ends])?;
+        play(
+            bus,
+            &[
+                Joins(1),
+                Joins(0),
+                Grants(0),
+                Ends,
+                Joins(0),
+                Grants(1),
+                Ends,
+                Grants(0),
+                Ends,
+            ],
+        )?;
     }
     Ok(())
 }

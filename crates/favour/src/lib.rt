@@ -20,7 +20,7 @@ pub struct Own {
     served: Option<u8>,
 }
 
-#[derive(Drop, Debug)]
+#[derive(Drop)]
 pub struct Favour<B> {
     own: Own,
     // never hears of the favoured port
