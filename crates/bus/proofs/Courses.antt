@@ -10,9 +10,9 @@ use Rattle.std.proofs.shelf.Tests.{cases-eq, both-ways, eq-eqb, ne-eqb}
 use Rattle.tasks.specs.declared.limit.Limit.{Limit}
 use Rattle.tasks.specs.declared.limit.Limit.the-variants.{Phases, Unlimited}
 use Rattle.tasks.specs.Limits.{AtMost, more}
-use Rattle.bus.specs.Turns.{Meaning, Joined, Granted, Done, withServed}
-use Rattle.bus.specs.Means.{Means, Laws}
-use Rattle.bus.specs.Courses.{Event, joins, grants, ends, Course, Turns, phases, No-turns-pass-a-limit, No-course-passes-a-limit, Every-course-keeps-the-turn-rule}
+use Rattle.bus.specs.Turns.{Meaning, SameBus, Joined, Granted, Done, withServed}
+use Rattle.bus.specs.Means.{Means, Laws, LimitOf}
+use Rattle.bus.specs.Courses.{Event, joins, grants, ends, Course, Turns, phases, No-turns-pass-a-limit, Every-course-keeps-the-turn-rule, No-wait-is-longer}
 use Rattle.bus.proofs.AtMost.{at-most-trans}
 use Rattle.bus.proofs.Served.{served-mono}
 
@@ -109,7 +109,16 @@ keeps-rule means laws s es t st (Course.done {t = v} {es = fs} r d) =
     let l = laws .ending v t (k .1) d in
     (Turns.done (k .0) (l .0), l .1)
 
-pub no-course-passes : {X : Type 0} (means : Means X) → Laws means → No-course-passes-a-limit means
-no-course-passes means laws s a t es u b st j r z h ne =
-    let k = laws .joining s a t st j in
-    no-turns-pass (means .meaning s) a (means .meaning t) es (means .meaning u) b (k .0) (keeps-rule means laws t es u (k .1) r .0) z h ne
+same-bus : {m n : Meaning} {es : List Event} → Turns m es n → SameBus m n
+same-bus (Turns.start) = record { ports = refl; limit = λ x y. refl }
+same-bus (Turns.join r j) = let k = same-bus r in record { ports = j .bus .ports ∙ k .ports; limit = λ x y. j .bus .limit x y ∙ k .limit x y }
+same-bus (Turns.grant r g) = let k = same-bus r in record { ports = g .bus .ports ∙ k .ports; limit = λ x y. g .bus .limit x y ∙ k .limit x y }
+same-bus (Turns.done r d) = let k = same-bus r in record { ports = d .bus .ports ∙ k .ports; limit = λ x y. d .bus .limit x y ∙ k .limit x y }
+
+pub no-longer : {X : Type 0} (means : Means X) → Laws means → (s : X) (a b : ℕ) (l : Limit) → LimitOf (means .meaning s) a b l → No-wait-is-longer means s a b l
+no-longer means laws s a b l is before t u es v st past j r z =
+    let k = keeps-rule means laws s before t st past in
+    let bus = same-bus (k .0) in
+    let n = laws .joining t a u (k .1) j in
+    let within = no-turns-pass (means .meaning t) a (means .meaning u) es (means .meaning v) b (n .0) (keeps-rule means laws u es v (n .1) r .0) z (rw (bus .ports) (is .second)) (λ e. is .apart (sym e)) in
+    subst (AtMost (withServed (means .meaning t .serves) b (Phases (phases b es)))) (bus .limit a b ∙ sym (is .limit)) within

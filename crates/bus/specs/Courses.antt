@@ -4,6 +4,7 @@ use mathlib.Core.Bool.{cond}
 use mathlib.Core.List.{List, [], _∷_}
 use Prim.Native.Nat.{ℕ, _+_, _<_}
 use lib.Dec.{eqb}
+use Rattle.tasks.specs.declared.limit.Limit.{Limit}
 use Rattle.tasks.specs.declared.limit.Limit.the-variants.{Phases}
 use Rattle.tasks.specs.Limits.{AtMost}
 use Rattle.bus.specs.Turns.{Meaning, Joined, Granted, Done, withServed}
@@ -42,15 +43,15 @@ No-turns-pass-a-limit =
     → Joined m a n → Turns n es o → phases a es ≡ 0 → b < m .ports → (b ≡ a → ⊥)
     → AtMost (withServed (m .serves) b (Phases (phases b es))) (m .limit a b)
 
--- The same of an arbiter's own courses.
-abbrev pub No-course-passes-a-limit : {X : Type 0} → Means X → Type 0
-No-course-passes-a-limit {X} means =
-    (s : X) (a : ℕ) (t : X) (es : List Event) (u : X) (b : ℕ)
-    → means .stands s → means .joins s a t → Course means t es u → phases a es ≡ 0 → b < means .meaning s .ports → (b ≡ a → ⊥)
-    → AtMost (withServed (means .meaning s .serves) b (Phases (phases b es))) (means .meaning s .limit a b)
-
 -- An arbiter's own course is a course of the turn rule, and ends at a value that stands.
 abbrev pub Every-course-keeps-the-turn-rule : {X : Type 0} → Means X → Type 0
 Every-course-keeps-the-turn-rule {X} means =
     (s : X) (es : List Event) (t : X) → means .stands s → Course means s es t
     → Turns (means .meaning s) es (means .meaning t) × means .stands t
+
+-- Whatever is called on an arbiter from the value s on: from a join of port a, as long as a is not granted, the phases of port b that are granted, plus 1 if b was in service at the join, are at most l.
+abbrev pub No-wait-is-longer : {X : Type 0} → Means X → X → ℕ → ℕ → Limit → Type 0
+No-wait-is-longer {X} means s a b l =
+    (before : List Event) (t u : X) (es : List Event) (v : X)
+    → means .stands s → Course means s before t → means .joins t a u → Course means u es v → phases a es ≡ 0
+    → AtMost (withServed (means .meaning t .serves) b (Phases (phases b es))) l
