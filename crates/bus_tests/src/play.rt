@@ -10,7 +10,7 @@ use tasks::refusal::Refusal;
 use tasks::refusal::RefusalDebug;
 
 #[derive(Clone, Copy)]
-pub enum Step {
+pub(crate) enum Step {
     // a join of this port is taken
     Joins(u8),
     // a grant answers this port
@@ -29,7 +29,7 @@ pub enum Step {
 }
 
 // The number of a refusal; 0 where the call was taken.
-pub fn number<T: Drop>(r: Result<T, Refusal>) -> u8 {
+pub(crate) fn number<T: Drop>(r: Result<T, Refusal>) -> u8 {
     match r {
         Ok(_) => 0,
         Err(e) => e.number().unwrap_or(0),
@@ -50,7 +50,7 @@ fn turn<B: Arbiter>(bus: &mut B, step: Step) -> Result<(), Fail> {
     }
 }
 
-pub fn play<B: Arbiter>(bus: &mut B, steps: &[Step]) -> Result<(), Fail> {
+pub(crate) fn play<B: Arbiter>(bus: &mut B, steps: &[Step]) -> Result<(), Fail> {
     for step in steps {
         turn(bus, *step)?;
     }
@@ -58,14 +58,17 @@ pub fn play<B: Arbiter>(bus: &mut B, steps: &[Step]) -> Result<(), Fail> {
 }
 
 // A table on an arbiter that was just made, from idle to idle.
-pub fn table<B: Arbiter>(made: Result<B, Refusal>, steps: &[Step]) -> Result<(), Fail> {
+pub(crate) fn table<B: Arbiter>(made: Result<B, Refusal>, steps: &[Step]) -> Result<(), Fail> {
     let mut bus = made?;
     check(bus.idle())?;
     play(&mut bus, steps)?;
     check(bus.idle())
 }
 
-pub fn favoured<B: Arbiter>(below: Result<B, Refusal>, port: u8) -> Result<Favour<B>, Refusal> {
+pub(crate) fn favoured<B: Arbiter>(
+    below: Result<B, Refusal>,
+    port: u8,
+) -> Result<Favour<B>, Refusal> {
     Ok(Favour::new(below?, port)?)
 }
 
@@ -78,7 +81,10 @@ fn all_join<B: Arbiter>(bus: &mut B) -> Result<(), Fail> {
 }
 
 // All 16 ports join, the highest first, and are served, the highest or the lowest first.
-pub fn all_served<B: Arbiter>(made: Result<B, Refusal>, highest_first: bool) -> Result<(), Fail> {
+pub(crate) fn all_served<B: Arbiter>(
+    made: Result<B, Refusal>,
+    highest_first: bool,
+) -> Result<(), Fail> {
     let mut bus = made?;
     all_join(&mut bus)?;
     for a in 0..16u8 {

@@ -1,4 +1,5 @@
 use Rattle.bus_line.proofs.Laws.{either-laws}
+use Rattle.bus_line.proofs.BusLaws
 use Rattle.bus_line.proofs.either.EitherArbiter.the-impl.Needs as need
 
 pub lawful-law : need.lawful-law
