@@ -6,9 +6,10 @@ use crate::play::number;
 use crate::play::play;
 use crate::play::table;
 use bus::arbiter::Arbiter;
-use bus_line::either::Either;
-use bus_line::either::EitherArbiter;
-use bus_line::line::Bus;
+use bus_line::Bus;
+use bus_line::bus_of;
+use either::Either;
+use either::EitherArbiter;
 use favour::Favour;
 use favour::FavourArbiter;
 use makers_arbiter::Batches;
@@ -310,7 +311,7 @@ fn a_refused_favour_hands_the_arbiter_back() -> Result<(), Fail> {
 }
 
 fn made(bottom: Bottom, favours: Favours, ports: u8) -> Result<Bus, Refusal> {
-    Bus::new(BusLine { bottom, favours }, ports)
+    bus_of(BusLine { bottom, favours }, ports)
 }
 
 #[test]
