@@ -1,7 +1,5 @@
 use Rattle.std.proofs.shelf.Results.{cases-weaker}
 use Rattle.bus.proofs.Courses.{no-turns-pass, keeps-rule, no-longer}
-use Rattle.bus.proofs.Refused
-use Rattle.bus.proofs.Masks
 use Rattle.bus.proofs.fairness.longest_wait.Needs as need
 
 pub returns : need.returns
