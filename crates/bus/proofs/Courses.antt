@@ -10,9 +10,9 @@ use Rattle.std.proofs.shelf.Tests.{cases-eq, both-ways, eq-eqb, ne-eqb}
 use Rattle.tasks.specs.declared.limit.Limit.{Limit}
 use Rattle.tasks.specs.declared.limit.Limit.the-variants.{Phases, Unlimited}
 use Rattle.tasks.specs.Limits.{AtMost, more}
-use Rattle.bus.specs.Turns.{Meaning, Joined, Granted, Done, withServed}
-use Rattle.bus.specs.Means.{Means, Laws}
-use Rattle.bus.specs.Courses.{Event, joins, grants, ends, Course, Turns, phases, No-turns-pass-a-limit, No-course-passes-a-limit, Every-course-keeps-the-turn-rule}
+use Rattle.bus.specs.Turns.{Meaning, SameBus, Joined, Granted, Done, withServed}
+use Rattle.bus.specs.Means.{Means, Laws, LimitOf}
+use Rattle.bus.specs.Courses.{Event, joins, grants, ends, Course, RuleCourse, phases, No-turns-pass-a-limit, Every-course-keeps-the-turn-rule, No-wait-is-longer}
 use Rattle.bus.proofs.AtMost.{at-most-trans}
 use Rattle.bus.proofs.Served.{served-mono}
 
@@ -60,16 +60,16 @@ pub record Spent (m : Meaning) (a b : ℕ) (es : List Event) (n : Meaning) : Typ
   pub waits : n .waits a ≡ true
   pub within : AtMost (plus (phases b es) (n .still a b)) (m .still a b)
 
-pub spent : {m n : Meaning} {es : List Event} (a b : ℕ) → m .waits a ≡ true → Turns m es n → phases a es ≡ 0 → Spent m a b es n
-spent {m} a b w (Turns.start) z = record { waits = w; within = plus-none (m .still a b) }
-spent {m} a b w (Turns.join {n = n} {o = o} {a = c} {es = es} r j) z =
+pub spent : {m n : Meaning} {es : List Event} (a b : ℕ) → m .waits a ≡ true → RuleCourse m es n → phases a es ≡ 0 → Spent m a b es n
+spent {m} a b w (RuleCourse.start) z = record { waits = w; within = plus-none (m .still a b) }
+spent {m} a b w (RuleCourse.join {n = n} {o = o} {a = c} {es = es} r j) z =
     let k = spent a b w r z in
     let ne : a ≡ c → ⊥ = λ e. both-ways (n .waits c) (j .free) (ap (n .waits) (sym e) ∙ k .waits) in
     record {
       waits = j .others a ne ∙ k .waits;
       within = plus-same (phases b es) (n .still a b) (o .still a b) (m .still a b) (k .within) (j .kept a b (k .waits));
     }
-spent {m} a b w (Turns.grant {n = n} {o = o} {c = c} {es = es} r g) z = elim (cases-eq c a) [
+spent {m} a b w (RuleCourse.grant {n = n} {o = o} {c = c} {es = es} r g) z = elim (cases-eq c a) [
   | inl e ↦ absurd (let k = rw (eq-eqb c a e) at z in omega (arith, k))
   | inr ne ↦ (
       let zz : 0 + phases a es ≡ 0 = rw (ne-eqb c a ne) at z in
@@ -80,7 +80,7 @@ spent {m} a b w (Turns.grant {n = n} {o = o} {c = c} {es = es} r g) z = elim (ca
         | inr nb ↦ record { waits = still; within = rw (ne-eqb c b nb) (plus-kept (phases b es) (n .still a b) (o .still a b) (m .still a b) (k .within) (g .kept a b still)) }
       ])
 ]
-spent {m} a b w (Turns.done {n = n} {o = o} {es = es} r d) z =
+spent {m} a b w (RuleCourse.done {n = n} {o = o} {es = es} r d) z =
     let k = spent a b w r z in
     record {
       waits = d .waits a ∙ k .waits;
@@ -95,21 +95,30 @@ no-turns-pass m a n es o b j r z h ne =
     (j .fresh b h ne)
 
 pub keeps-rule : {X : Type 0} (means : Means X) → Laws means → Every-course-keeps-the-turn-rule means
-keeps-rule means laws s es t st (Course.start) = (Turns.start, st)
+keeps-rule means laws s es t st (Course.start) = (RuleCourse.start, st)
 keeps-rule means laws s es t st (Course.join {t = v} {a = a} {es = fs} r j) =
     let k = keeps-rule means laws s fs v st r in
     let l = laws .joining v a t (k .1) j in
-    (Turns.join (k .0) (l .0), l .1)
+    (RuleCourse.join (k .0) (l .0), l .1)
 keeps-rule means laws s es t st (Course.grant {t = v} {c = c} {es = fs} r g) =
     let k = keeps-rule means laws s fs v st r in
     let l = laws .granting v c t (k .1) g in
-    (Turns.grant (k .0) (l .0), l .1)
+    (RuleCourse.grant (k .0) (l .0), l .1)
 keeps-rule means laws s es t st (Course.done {t = v} {es = fs} r d) =
     let k = keeps-rule means laws s fs v st r in
     let l = laws .ending v t (k .1) d in
-    (Turns.done (k .0) (l .0), l .1)
+    (RuleCourse.done (k .0) (l .0), l .1)
 
-pub no-course-passes : {X : Type 0} (means : Means X) → Laws means → No-course-passes-a-limit means
-no-course-passes means laws s a t es u b st j r z h ne =
-    let k = laws .joining s a t st j in
-    no-turns-pass (means .meaning s) a (means .meaning t) es (means .meaning u) b (k .0) (keeps-rule means laws t es u (k .1) r .0) z h ne
+same-bus : {m n : Meaning} {es : List Event} → RuleCourse m es n → SameBus m n
+same-bus (RuleCourse.start) = record { ports = refl; limit = λ x y. refl }
+same-bus (RuleCourse.join r j) = let k = same-bus r in record { ports = j .bus .ports ∙ k .ports; limit = λ x y. j .bus .limit x y ∙ k .limit x y }
+same-bus (RuleCourse.grant r g) = let k = same-bus r in record { ports = g .bus .ports ∙ k .ports; limit = λ x y. g .bus .limit x y ∙ k .limit x y }
+same-bus (RuleCourse.done r d) = let k = same-bus r in record { ports = d .bus .ports ∙ k .ports; limit = λ x y. d .bus .limit x y ∙ k .limit x y }
+
+pub no-longer : {X : Type 0} (means : Means X) → Laws means → (s : X) (a b : ℕ) (l : Limit) → LimitOf (means .meaning s) a b l → No-wait-is-longer means s a b l
+no-longer means laws s a b l is before t u es v st past j r z =
+    let k = keeps-rule means laws s before t st past in
+    let bus = same-bus (k .0) in
+    let n = laws .joining t a u (k .1) j in
+    let within = no-turns-pass (means .meaning t) a (means .meaning u) es (means .meaning v) b (n .0) (keeps-rule means laws u es v (n .1) r .0) z (rw (bus .ports) (is .second)) (λ e. is .apart (sym e)) in
+    subst (AtMost (withServed (means .meaning t .serves) b (Phases (phases b es)))) (bus .limit a b ∙ sym (is .limit)) within

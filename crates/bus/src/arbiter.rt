@@ -7,6 +7,9 @@ ghost use Rattle.bus.specs.Means.{Means, Laws, LimitOf, LimitRefused, JoinRefu
 use tasks::limit::Limit;
 use tasks::refusal::Refusal;
 
+// A port for each core, and no platform has more cores.
+pub const MOST_PORTS: u8 = 16;
+
 pub trait Arbiter: Drop {
     // What a value stands for, when its parts agree, and what each call makes of it.
     ghost means: { Means Self };

@@ -1,36 +1,20 @@
--- The laws of one of two arbiters, from those of each. Assumes nothing.
-use Prim.Native.Nat.{ℕ}
-use Rattle.bus.specs.Turns.{Sound, Joined, Granted, Done}
-use Rattle.bus.specs.Means.{Means, Laws}
-use Rattle.bus_line.specs.declared.either.Either.{Either}
-use Rattle.bus_line.specs.declared.either.Either.the-variants.{First, Second}
-use Rattle.bus_line.specs.Eithers.{either-means}
+-- The laws of every arbiter that a bus line can spell, for callers that know their arbiter. Assumes nothing.
+use Rattle.bus.specs.Means.{Laws}
+use Rattle.queue.specs.Account.{queue-means}
+use Rattle.queue.proofs.Laws.{queue-laws}
+use Rattle.round_robin.specs.Account.{round-means}
+use Rattle.round_robin.proofs.Laws.{round-laws}
+use Rattle.favour.specs.Account.{favour-means}
+use Rattle.favour.proofs.Laws.{favour-laws}
+use Rattle.either.specs.Account.{either-means}
+use Rattle.bus_line.specs.Lines.{base-means, bus-means}
+use Rattle.either.proofs.Laws.{either-laws}
 
-module _ {X Y : Type 0} (first : Means X) (second : Means Y) (one : Laws first) (two : Laws second) where
-  sound : (s : Either X Y) → either-means first second .stands s → Sound (either-means first second .meaning s)
-  sound (First x) st = one .sound x st
-  sound (Second y) st = two .sound y st
+base-laws : Laws base-means
+base-laws = either-laws queue-means round-means queue-laws round-laws
 
-  joining : (s : Either X Y) (a : ℕ) (t : Either X Y) → either-means first second .stands s → either-means first second .joins s a t
-      → Joined (either-means first second .meaning s) a (either-means first second .meaning t) × either-means first second .stands t
-  joining (First s) a (First t) st j = one .joining s a t st j
-  joining (First s) a (Second t) st j = absurd j
-  joining (Second s) a (First t) st j = absurd j
-  joining (Second s) a (Second t) st j = two .joining s a t st j
-
-  granting : (s : Either X Y) (c : ℕ) (t : Either X Y) → either-means first second .stands s → either-means first second .grants s c t
-      → Granted (either-means first second .meaning s) c (either-means first second .meaning t) × either-means first second .stands t
-  granting (First s) c (First t) st g = one .granting s c t st g
-  granting (First s) c (Second t) st g = absurd g
-  granting (Second s) c (First t) st g = absurd g
-  granting (Second s) c (Second t) st g = two .granting s c t st g
-
-  ending : (s t : Either X Y) → either-means first second .stands s → either-means first second .ends s t
-      → Done (either-means first second .meaning s) (either-means first second .meaning t) × either-means first second .stands t
-  ending (First s) (First t) st d = one .ending s t st d
-  ending (First s) (Second t) st d = absurd d
-  ending (Second s) (First t) st d = absurd d
-  ending (Second s) (Second t) st d = two .ending s t st d
-
-  pub either-laws : Laws (either-means first second)
-  either-laws = record { sound = sound; joining = joining; granting = granting; ending = ending }
+pub bus-laws : Laws bus-means
+bus-laws =
+    let one = favour-laws base-means base-laws in
+    either-laws base-means (either-means (favour-means base-means) (favour-means (favour-means base-means))) base-laws
+    (either-laws (favour-means base-means) (favour-means (favour-means base-means)) one (favour-laws (favour-means base-means) one))

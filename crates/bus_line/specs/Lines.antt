@@ -22,9 +22,9 @@ use Rattle.round_robin.specs.Account.{round-means, Fresh as FreshRing}
 use Rattle.favour.specs.declared.Own.{Own}
 use Rattle.favour.specs.declared.Favour.{Favour}
 use Rattle.favour.specs.Account.{favour-means}
-use Rattle.bus_line.specs.declared.either.Either.{Either}
-use Rattle.bus_line.specs.declared.either.Either.the-variants.{First, Second}
-use Rattle.bus_line.specs.Eithers.{either-means}
+use Rattle.either.specs.declared.Either.{Either}
+use Rattle.either.specs.declared.Either.the-variants.{First, Second}
+use Rattle.either.specs.Account.{either-means}
 
 -- a bottom arbiter
 abbrev pub BaseValue : Type 0

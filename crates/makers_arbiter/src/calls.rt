@@ -8,6 +8,7 @@ ghost use Rattle.makers_arbiter.specs.Turnover.{opened, behind};
 ghost use Rattle.makers_arbiter.specs.Account.{batch-means, Fresh};
 use crate::Batches;
 use bus::arbiter::Arbiter;
+use bus::arbiter::MOST_PORTS;
 use bus::service::is_served;
 use tasks::limit::Limit;
 use tasks::refusal::Refusal;
@@ -28,7 +29,7 @@ impl Batches {
     pub fn new(ports: u8) -> Result<Batches, Refusal>
         ensures { λ r. ⌜ Cases r (λ batches. Fresh ports batches) (λ e. (told e ≡ refusal 6) × ((ports < 1) ⊎ (16 < ports))) ⌝ }
     {
-        if ports < 1 || ports > 16 {
+        if ports < 1 || ports > MOST_PORTS {
             return Err(Refusal::Core);
         }
         Ok(Batches {

@@ -8,6 +8,7 @@ ghost use Rattle.queue.specs.Lines.{among};
 ghost use Rattle.queue.specs.Account.{line, queue-means, Fresh};
 use crate::Queue;
 use bus::arbiter::Arbiter;
+use bus::arbiter::MOST_PORTS;
 use bus::service::is_served;
 use tasks::limit::Limit;
 use tasks::refusal::Refusal;
@@ -17,7 +18,7 @@ impl Queue {
     pub fn new(ports: u8) -> Result<Queue, Refusal>
         ensures { λ r. ⌜ Cases r (λ queue. Fresh ports queue) (λ e. (told e ≡ refusal 6) × ((ports < 1) ⊎ (16 < ports))) ⌝ }
     {
-        if ports < 1 || ports > 16 {
+        if ports < 1 || ports > MOST_PORTS {
             return Err(Refusal::Core);
         }
         Ok(Queue {

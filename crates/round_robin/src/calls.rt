@@ -7,6 +7,7 @@ ghost use Rattle.tasks.specs.Refusals.{told, refusal};
 ghost use Rattle.round_robin.specs.Account.{round-means, Fresh};
 use crate::RoundRobin;
 use bus::arbiter::Arbiter;
+use bus::arbiter::MOST_PORTS;
 use bus::service::is_served;
 use tasks::limit::Limit;
 use tasks::refusal::Refusal;
@@ -16,7 +17,7 @@ impl RoundRobin {
     pub fn new(ports: u8) -> Result<RoundRobin, Refusal>
         ensures { λ r. ⌜ Cases r (λ ring. Fresh ports ring) (λ e. (told e ≡ refusal 6) × ((ports < 1) ⊎ (16 < ports))) ⌝ }
     {
-        if ports < 1 || ports > 16 {
+        if ports < 1 || ports > MOST_PORTS {
             return Err(Refusal::Core);
         }
         Ok(RoundRobin {
@@ -67,7 +68,7 @@ pub impl Arbiter for RoundRobin as RoundRobinArbiter {
         }
         let start = u32::from(self.next);
         let ahead = self.mask.rotate_right(start).trailing_zeros();
-        let c = ((start + ahead) % 16) as u8;
+        let c = ((start + ahead) % u16::BITS) as u8;
         self.mask ^= 1u16 << c;
         self.next = c + 1;
         self.served = Some(c);

@@ -2,8 +2,8 @@
 use Prim.Native.Nat.{ℕ}
 use Rattle.bus.specs.Turns.{Meaning}
 use Rattle.bus.specs.Means.{Means}
-use Rattle.bus_line.specs.declared.either.Either.{Either}
-use Rattle.bus_line.specs.declared.either.Either.the-variants.{First, Second}
+use Rattle.either.specs.declared.Either.{Either}
+use Rattle.either.specs.declared.Either.the-variants.{First, Second}
 
 module _ {X Y : Type 0} (first : Means X) (second : Means Y) where
   abbrev pub either-meaning : Either X Y → Meaning

@@ -1,5 +1,5 @@
-use Rattle.bus_line.proofs.Laws.{either-laws}
-use Rattle.bus_line.proofs.either.EitherArbiter.the-impl.Needs as need
+use Rattle.either.proofs.Laws.{either-laws}
+use Rattle.either.proofs.EitherArbiter.the-impl.Needs as need
 
 pub lawful-law : need.lawful-law
 lawful-law g = either-laws (g .X·Arbiter .means) (g .Y·Arbiter .means) (g .X·Arbiter·met .lawful) (g .Y·Arbiter·met .lawful)

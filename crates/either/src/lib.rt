@@ -1,5 +1,5 @@
 // One of two arbiters: an arbiter again, so that arbiters of different types go into one list of calls.
-ghost use Rattle.bus_line.specs.Eithers.{either-means};
+ghost use Rattle.either.specs.Account.{either-means};
 use bus::arbiter::Arbiter;
 use tasks::limit::Limit;
 use tasks::refusal::Refusal;
