@@ -35,6 +35,13 @@ impl Plan {
         }
     }
 
+    // Its cores and its bus line.
+    pub fn platform(&self) -> Platform
+        ensures { λ platform. ⌜ (platform .cores ≡ content (now (self .entry)) .cores) × (bottomNumber (platform .line .bottom) ≡ content (now (self .entry)) .bottom) × (favoured (platform .line .favours) ≡ content (now (self .entry)) .favours) × (coresFit (platform .cores) (favoured (platform .line .favours)) ≡ true) ⌝ }
+    {
+        self.platform
+    }
+
     // A new task, after those that are there: 6, 7, 9, 10, 11, 12.
     pub fn add(&mut self, row: Row) -> Result<(), Refusal>
         ensures answer { λ r. ⌜ answer r ≡ addVerdict (content (now (self .entry)) .cores) (content (now (self .entry)) .rows) row ⌝ }
