@@ -44,7 +44,7 @@ abbrev pub Proper : Limit → Type 0
 Proper (Phases n) = (1 ≤ n) × (n ≤ 255)
 Proper Unlimited = Unit {0}
 
--- what holds of every meaning
+-- what holds of the meaning of every value that stands
 pub record Sound (m : Meaning) : Type 0 where
   -- there are 1 to 16 ports
   pub some : 1 ≤ m .ports
