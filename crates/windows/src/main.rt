@@ -17,6 +17,9 @@ use tasks::refusal::Refusal;
 // The most bytes of a sheet that are looked at.
 const MOST_BYTES: usize = 65536;
 
+// More than print writes of any plan.
+const MOST_TEXT: usize = 8192;
+
 // The first bytes of standard input, or all if there are fewer, read in blocks; answers how many there are.
 fn read_sheet(rt: &LibcRuntime, sheet: &mut [u8]) -> io::Result<usize>
     ensures { λ r. ⌜ Cases r (λ n. n ≤ length (now (sheet .entry))) (λ _. Unit {0}) ⌝ }
@@ -59,7 +62,7 @@ fn tell_refusal(rt: &LibcRuntime, why: Refusal) -> io::Result<()> {
 fn main(rt: LibcRuntime) -> io::Result<()> {
     let heap = rt.alloc();
     let mut sheet = vec![in heap; 0u8; MOST_BYTES]?;
-    let mut out = vec![in heap; 0u8; 8192]?;
+    let mut out = vec![in heap; 0u8; MOST_TEXT]?;
     let len = read_sheet(&rt, &mut sheet)?;
     let mut plan = match Plan::open(heap, 1, 1, &[]) {
         Ok(plan) => plan,
@@ -69,7 +72,7 @@ fn main(rt: LibcRuntime) -> io::Result<()> {
         return tell_fault(&rt, fault);
     }
     match settled(&mut plan, &mut out) {
-        Ok(count) => rt.stdout().write_all(&out[0..count]),
+        Ok(count) => rt.stdout().write_all(&out[0..count.min(MOST_TEXT)]),
         Err(why) => tell_refusal(&rt, why),
     }
 }

@@ -39,7 +39,10 @@ impl Plan {
     pub fn platform(&self) -> Platform
         ensures { λ platform. ⌜ (platform .cores ≡ content (now (self .entry)) .cores) × (bottomNumber (platform .line .bottom) ≡ content (now (self .entry)) .bottom) × (favoured (platform .line .favours) ≡ content (now (self .entry)) .favours) × (coresFit (platform .cores) (favoured (platform .line .favours)) ≡ true) ⌝ }
     {
-        self.platform
+        Platform {
+            cores: self.platform.cores,
+            line: self.platform.line,
+        }
     }
 
     // A new task, after those that are there: 6, 7, 9, 10, 11, 12.
