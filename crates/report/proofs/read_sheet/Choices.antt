@@ -1,6 +1,6 @@
 use Prim.Native.Nat.{_-_, _≤_}
 use lib.ListN.{length}
-use Rattle.windows.proofs.read_sheet.Given as given
+use Rattle.report.proofs.read_sheet.Given as given
 
 abbrev pub Inv-loop-len : given.InvT-loop-len
 Inv-loop-len l = l .len ≤ length (l .entry .sheet)
