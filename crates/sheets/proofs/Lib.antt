@@ -2,3 +2,6 @@ mod Heads
 mod Platforms
 mod Gathering
 pub mod Loaded
+mod InBytes
+mod SavedAgain
+mod LoadedAgain

@@ -4,3 +4,4 @@ pub mod Entries
 pub mod Spelled
 pub mod Answers
 pub mod Written
+pub mod Theorems

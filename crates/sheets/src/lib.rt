@@ -3,3 +3,4 @@ pub mod entry;
 pub mod order;
 pub mod plan;
 pub mod reader;
+pub mod theorems;

@@ -1,4 +1,5 @@
 // Reading a sheet in place: the byte layer.
+ghost use mathlib.Core.Path.{_≡_};
 use tasks::refusal::Refusal;
 use tasks::refusal::RefusalDebug;
 
@@ -9,6 +10,15 @@ pub mod steps;
 pub struct Reader<'a> {
     sheet: &'a [u8],
     place: usize,
+}
+
+impl<'a> Reader<'a> {
+    // Where the next record is due.
+    pub fn place(&self) -> usize
+        ensures { λ p. ⌜ p ≡ now (self .entry) .place ⌝ }
+    {
+        self.place
+    }
 }
 
 // A record: a part of the sheet, with its place.

@@ -30,13 +30,6 @@ impl<'a> Reader<'a> {
         }
     }
 
-    // Where the next record is due.
-    pub fn place(&self) -> usize
-        ensures { λ p. ⌜ p ≡ now (self .entry) .place ⌝ }
-    {
-        self.place
-    }
-
     // The next record as a part of the sheet, or none at the sheet's end.
     pub fn next(&mut self) -> Result<Option<Record<'a>>, Misread>
         ensures value { λ r. ⌜ seen r ≡ recordAt (now (now (self .entry) .sheet)) (now (self .entry) .place) ⌝ }
