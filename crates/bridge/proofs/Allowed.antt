@@ -20,13 +20,15 @@ pub record Allowed (P : Plan) (Z : Script) : Type 0 where
 
 pub allowed : (P : Plan) (Z : Script) → LawfulScript P Z → Allowed P Z
 allowed P Z h = record {
-    known = λ k l. h k l .known;
-    some-a = λ k l. h k l .some-a;
-    most-a = λ k l. h k l .most-a;
-    some-e = λ k l. h k l .some-e;
-    most-e = λ k l. h k l .most-e;
-    some-r = λ k l. h k l .some-r;
-    most-r = λ k l. h k l .most-r;
-    spaced = λ j k a b ne e. elim (cases-lt j k) [
-      | inl l ↦ inl (omega (arith, h k b .spaced j l e, ap (λ u. P .row u .spacing) e))
-      | inr l ↦ inr (h j a .spaced k (omega arith) (sym e)) ] }
+  known = λ k l. h k l .known;
+  some-a = λ k l. h k l .some-a;
+  most-a = λ k l. h k l .most-a;
+  some-e = λ k l. h k l .some-e;
+  most-e = λ k l. h k l .most-e;
+  some-r = λ k l. h k l .some-r;
+  most-r = λ k l. h k l .most-r;
+  spaced = λ j k a b ne e. elim (cases-lt j k) [
+    | inl l ↦ inl (omega (arith, h k b .spaced j l e, ap (λ u. P .row u .spacing) e))
+    | inr l ↦ inr (h j a .spaced k (omega arith) (sym e))
+  ];
+}

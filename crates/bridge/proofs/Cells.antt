@@ -21,8 +21,9 @@ put-off f k x j ne = rw (ne-eqb j k ne) refl
 pub put-all : {X : Type 0} (Q : ℕ → X → Type 0) (f : ℕ → X) (k : ℕ) (x : X) → ((j : ℕ) → (j ≡ k → ⊥) → Q j (f j)) → Q k x → (j : ℕ) → Q j (put f k x j)
 put-all Q f k x others here j =
     elim (cases-eq j k) [
-      inl e ↦ subst (λ i. Q i (put f k x i)) (sym e) (subst (Q k) (sym (put-at f k x)) here)
-    | inr ne ↦ subst (Q j) (sym (put-off f k x j ne)) (others j ne) ]
+      | inl e ↦ subst (λ i. Q i (put f k x i)) (sym e) (subst (Q k) (sym (put-at f k x)) here)
+      | inr ne ↦ subst (Q j) (sym (put-off f k x j ne)) (others j ne)
+    ]
 
 -- the stage of a job, as a number
 abbrev pub phase : Cell → ℕ

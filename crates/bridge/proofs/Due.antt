@@ -17,9 +17,9 @@ use Rattle.bridge.proofs.Cells.{phase, Fits}
 abbrev pub due : ℕ → ℕ → Cell → Option ℕ
 due now release x =
     cond (eqb (phase x) 0) (cond (ltb now release) (Some release) None)
-      (cond (eqb (phase x) 2) (Some (x .a-end))
-        (cond (eqb (phase x) 3) (Some (x .e-end))
-          (cond (eqb (phase x) 5) (Some (x .end)) None)))
+    (cond (eqb (phase x) 2) (Some (x .a-end))
+    (cond (eqb (phase x) 3) (Some (x .e-end))
+    (cond (eqb (phase x) 5) (Some (x .end)) None)))
 
 abbrev pub sooner : Option ℕ → Option ℕ → Option ℕ
 sooner None y = y
@@ -49,26 +49,39 @@ next-of Z S (suc n) = go (next Z S n) (next-of Z S n) (due (S .now) (Z .row n .r
   where
     D : ℕ → Option ℕ
     D k = due (S .now) (Z .row k .release) (S .cell k)
+
     go : (o : Option ℕ) → NextOf Z S n o → (w : Option ℕ) → due (S .now) (Z .row n .release) (S .cell n) ≡ w → NextOf Z S (suc n) (sooner o w)
     go None h None e = λ k l. elim (cases-eq k n) [
-        inl u ↦ ap D u ∙ e
-      | inr u ↦ h k (omega arith) ]
-    go None h (Some t) e = ((n, omega arith, e), λ k d l v. elim (cases-eq k n) [
-        inl u ↦ (let s : t ≡ d = (let w = ap D u in cc) in omega arith)
-      | inr u ↦ (let w = h k (omega arith) in let z : _≡_ {A = ℕ} 0 1 = cc in absurd (omega arith)) ])
-    go (Some t) h None e = ((h .0 .0, omega (arith, h .0 .1), h .0 .2), λ k d l v. elim (cases-eq k n) [
-        inl u ↦ (let w = ap D u in let z : _≡_ {A = ℕ} 0 1 = cc in absurd (omega arith))
-      | inr u ↦ h .1 k d (omega arith) v ])
+      | inl u ↦ ap D u ∙ e
+      | inr u ↦ h k (omega arith)
+    ]
+    go None h (Some t) e = (
+      (n, omega arith, e),
+      λ k d l v. elim (cases-eq k n) [
+        | inl u ↦ (let s : t ≡ d = (let w = ap D u in cc) in omega arith)
+        | inr u ↦ (let w = h k (omega arith) in let z : _≡_ {A = ℕ} 0 1 = cc in absurd (omega arith))
+      ],
+    )
+    go (Some t) h None e = (
+      (h .0 .0, omega (arith, h .0 .1), h .0 .2),
+      λ k d l v. elim (cases-eq k n) [
+        | inl u ↦ (let w = ap D u in let z : _≡_ {A = ℕ} 0 1 = cc in absurd (omega arith))
+        | inr u ↦ h .1 k d (omega arith) v
+      ],
+    )
     go (Some t) h (Some s) e = (who, least)
       where
         who : (k : ℕ) × (k < suc n) × (D k ≡ Some (min t s))
         who = elim (cases-lt t s) [
-            inl u ↦ (let m : min t s ≡ t = omega arith in (h .0 .0, omega (arith, h .0 .1), h .0 .2 ∙ ap Some (sym m)))
-          | inr u ↦ (let m : min t s ≡ s = omega arith in (n, omega arith, e ∙ ap Some (sym m))) ]
+          | inl u ↦ (let m : min t s ≡ t = omega arith in (h .0 .0, omega (arith, h .0 .1), h .0 .2 ∙ ap Some (sym m)))
+          | inr u ↦ (let m : min t s ≡ s = omega arith in (n, omega arith, e ∙ ap Some (sym m)))
+        ]
+
         least : (k d : ℕ) → k < suc n → D k ≡ Some d → min t s ≤ d
         least k d l v = elim (cases-eq k n) [
-            inl u ↦ (let w = ap D u in let r : s ≡ d = cc in omega arith)
-          | inr u ↦ omega (arith, h .1 k d (omega arith) v) ]
+          | inl u ↦ (let w = ap D u in let r : s ≡ d = cc in omega arith)
+          | inr u ↦ omega (arith, h .1 k d (omega arith) v)
+        ]
 
 pub due-release : (now release : ℕ) (x : Cell) → phase x ≡ 0 → now < release → due now release x ≡ Some release
 due-release now release x e l = rw (e, lt-ltb now release l) refl
@@ -92,26 +105,32 @@ pub data Asks (now release : ℕ) (x : Cell) (t : ℕ) : Type 0 where
 pub due-asks : (now release : ℕ) (x : Cell) (t : ℕ) → due now release x ≡ Some t → Asks now release x t
 due-asks now release x t h =
     elim (cases-eq (phase x) 2) [
-      inl p ↦ for-a p (let u = due-a now release x p in cc)
-    | inr p2 ↦ elim (cases-eq (phase x) 3) [
-        inl p ↦ for-e p (let u = due-e now release x p in cc)
-      | inr p3 ↦ elim (cases-eq (phase x) 5) [
-          inl p ↦ for-r p (let u = due-r now release x p in cc)
-        | inr p5 ↦ elim (cases-eq (phase x) 0) [
-            inl p ↦ elim (cases-lt now release) [
-                inl l ↦ for-release p l (let u = due-release now release x p l in cc)
-              | inr l ↦ (let u = due-none p l in let z : _≡_ {A = ℕ} 0 1 = cc in absurd (omega arith)) ]
-          | inr p0 ↦ (let u = due-else p0 p2 p3 p5 in let z : _≡_ {A = ℕ} 0 1 = cc in absurd (omega arith)) ] ] ] ]
+      | inl p ↦ for-a p (let u = due-a now release x p in cc)
+      | inr p2 ↦ elim (cases-eq (phase x) 3) [
+        | inl p ↦ for-e p (let u = due-e now release x p in cc)
+        | inr p3 ↦ elim (cases-eq (phase x) 5) [
+          | inl p ↦ for-r p (let u = due-r now release x p in cc)
+          | inr p5 ↦ elim (cases-eq (phase x) 0) [
+            | inl p ↦ elim (cases-lt now release) [
+              | inl l ↦ for-release p l (let u = due-release now release x p l in cc)
+              | inr l ↦ (let u = due-none p l in let z : _≡_ {A = ℕ} 0 1 = cc in absurd (omega arith))
+            ]
+            | inr p0 ↦ (let u = due-else p0 p2 p3 p5 in let z : _≡_ {A = ℕ} 0 1 = cc in absurd (omega arith))
+          ]
+        ]
+      ]
+    ]
   where
     due-none : phase x ≡ 0 → release ≤ now → due now release x ≡ None
     due-none e l = rw (e, le-ltb now release l) refl
+
     due-else : (phase x ≡ 0 → ⊥) → (phase x ≡ 2 → ⊥) → (phase x ≡ 3 → ⊥) → (phase x ≡ 5 → ⊥) → due now release x ≡ None
     due-else a b c d = rw (ne-eqb (phase x) 0 a, ne-eqb (phase x) 2 b, ne-eqb (phase x) 3 c, ne-eqb (phase x) 5 d) refl
 
 pub due-after : (now release a e r : ℕ) (x : Cell) → Fits now release a e r x → (t : ℕ) → due now release x ≡ Some t → now ≤ t
 due-after now release a e r x f t h = elim (due-asks now release x t h) [
-    for-release p l u ↦ omega arith
+  | for-release p l u ↦ omega arith
   | for-a p u ↦ omega (arith, f .in-a p)
   | for-e p u ↦ omega (arith, f .in-e p)
-  | for-r p u ↦ omega (arith, f .in-r p) ]
-
+  | for-r p u ↦ omega (arith, f .in-r p)
+]

@@ -55,39 +55,54 @@ abbrev pub total-left : Script → State → ℕ
 total-left Z S = sum (Z .size) (λ k. left (S .now) (Z .row k) (S .cell k))
 
 module _ (P : Plan) (Z : Script) (sound : SoundPlan P) (ok : Allowed P Z) (m₀ : Meaning) where
-
   -- where no job asks for a moment, all have ended
   pub ended : (S : State) → Settled P Z sound ok m₀ S → (m : Meaning) → Keeps m₀ (S .events) m → NextOf Z S (Z .size) None → AllOver Z S
   ended S h m kp none k l =
       elim (cases-lt (phase (S .cell k)) 1) [
-        inr u ↦ (let f = i .fits k l in elim (cases-lt (phase (S .cell k)) 6) [
-            inl v ↦ absurd (active k l u (omega arith))
-          | inr v ↦ omega (arith, f .known) ])
-      | inl u ↦ absurd (go (S .has (coreAt P Z k)) refl (omega arith)) ]
+        | inr u ↦ (let f = i .fits k l in elim (cases-lt (phase (S .cell k)) 6) [
+          | inl v ↦ absurd (active k l u (omega arith))
+          | inr v ↦ omega (arith, f .known)
+        ])
+        | inl u ↦ absurd (go (S .has (coreAt P Z k)) refl (omega arith))
+      ]
     where
       i : Inv P Z (m₀ .limit) S m
       i = h .fine m kp
+
       asks : (j : ℕ) → j < Z .size → (t : ℕ) → due (S .now) (Z .row j .release) (S .cell j) ≡ Some t → ⊥
       asks j l t e = let n = none j l in let z : _≡_ {A = ℕ} 0 1 = cc in omega arith
+
       serves : (y : Turn) (j : ℕ) → j < Z .size → phase (S .cell j) ≡ suc (at y) → ⊥
       serves A j l e = asks j l (S .cell j .a-end) (due-a (S .now) (Z .row j .release) (S .cell j) e)
       serves R j l e = asks j l (S .cell j .end) (due-r (S .now) (Z .row j .release) (S .cell j) e)
+
       waits : (x : Turn) (j : ℕ) → j < Z .size → phase (S .cell j) ≡ at x → ⊥
       waits x j l e = let z = h .busy m kp x j l e in serves (z .0) (z .1) (z .2) (z .3)
+
       active : (j : ℕ) → j < Z .size → 1 ≤ phase (S .cell j) → phase (S .cell j) ≤ 5 → ⊥
       active j l u v = elim (cases-eq (phase (S .cell j)) 1) [
-          inl e ↦ waits A j l e
+        | inl e ↦ waits A j l e
         | inr a ↦ elim (cases-eq (phase (S .cell j)) 2) [
-            inl e ↦ serves A j l e
+          | inl e ↦ serves A j l e
           | inr b ↦ elim (cases-eq (phase (S .cell j)) 3) [
-              inl e ↦ asks j l (S .cell j .e-end) (due-e (S .now) (Z .row j .release) (S .cell j) e)
+            | inl e ↦ asks j l (S .cell j .e-end) (due-e (S .now) (Z .row j .release) (S .cell j) e)
             | inr c ↦ elim (cases-eq (phase (S .cell j)) 4) [
-                inl e ↦ waits R j l e
-              | inr d ↦ serves R j l (omega arith) ] ] ] ]
+              | inl e ↦ waits R j l e
+              | inr d ↦ serves R j l (omega arith)
+            ]
+          ]
+        ]
+      ]
+
       go : (o : Option ℕ) → S .has (coreAt P Z k) ≡ o → phase (S .cell k) ≡ 0 → ⊥
-      go None e z = h .acted (coreAt P Z k) (core-below P Z sound ok m₀ k l) e k l (record { same = refl; unstarted = z; released = elim (cases-lt (S .now) (Z .row k .release)) [
-          inr v ↦ v
-        | inl v ↦ absurd (asks k l (Z .row k .release) (due-release (S .now) (Z .row k .release) (S .cell k) z v)) ] })
+      go None e z = h .acted (coreAt P Z k) (core-below P Z sound ok m₀ k l) e k l (record {
+        same = refl;
+        unstarted = z;
+        released = elim (cases-lt (S .now) (Z .row k .release)) [
+          | inr v ↦ v
+          | inl v ↦ absurd (asks k l (Z .row k .release) (due-release (S .now) (Z .row k .release) (S .cell k) z v))
+        ];
+      })
       go (Some j) e z = let o = i .cores .holds (coreAt P Z k) j e in active j (o .known) (o .begun) (o .going)
 
   pub stays-over : (S T : State) → ((j : ℕ) → Grows (S .cell j) (T .cell j)) → (m : Meaning) → Inv P Z (m₀ .limit) T m → AllOver Z S → AllOver Z T
@@ -98,46 +113,57 @@ module _ (P : Plan) (Z : Script) (sound : SoundPlan P) (ok : Allowed P Z) (m₀ 
   falls S T a m i t n = sum-lt (Z .size) (λ k. left (suc (T .now)) (Z .row k) (T .cell k)) (λ k. left (T .now) (Z .row k) (T .cell k))
       (λ k l. left-tick (T .now) (Z .row k) (T .cell k)) q known
       (elim (due-asks (T .now) (Z .row q .release) (T .cell q) t (n .0 .2)) [
-        for-release p l u ↦ omega (arith, left-0 (T .now) (Z .row q) (T .cell q) p, left-0 (suc (T .now)) (Z .row q) (T .cell q) p)
-      | for-a p u ↦ omega (arith, later, i .fits q known .some-e (omega arith), left-2 (T .now) (Z .row q) (T .cell q) p, left-2 (suc (T .now)) (Z .row q) (T .cell q) p)
-      | for-e p u ↦ omega (arith, later, left-3 (T .now) (Z .row q) (T .cell q) p, left-3 (suc (T .now)) (Z .row q) (T .cell q) p)
-      | for-r p u ↦ omega (arith, later, left-5 (T .now) (Z .row q) (T .cell q) p, left-5 (suc (T .now)) (Z .row q) (T .cell q) p) ])
+        | for-release p l u ↦ omega (arith, left-0 (T .now) (Z .row q) (T .cell q) p, left-0 (suc (T .now)) (Z .row q) (T .cell q) p)
+        | for-a p u ↦ omega (arith, later, i .fits q known .some-e (omega arith), left-2 (T .now) (Z .row q) (T .cell q) p, left-2 (suc (T .now)) (Z .row q) (T .cell q) p)
+        | for-e p u ↦ omega (arith, later, left-3 (T .now) (Z .row q) (T .cell q) p, left-3 (suc (T .now)) (Z .row q) (T .cell q) p)
+        | for-r p u ↦ omega (arith, later, left-5 (T .now) (Z .row q) (T .cell q) p, left-5 (suc (T .now)) (Z .row q) (T .cell q) p)
+      ])
     where
       q : ℕ
       q = n .0 .0
+
       known : q < Z .size
       known = n .0 .1
+
       later : T .now < t
       later = due-later P Z sound ok m₀ S T a m i q t known (n .0 .2)
 
   module _ (ports : m₀ .ports ≡ P .cores) (idle : Idle m₀) (cs : List ℕ) where
-
     abbrev port : ℕ → ℕ
     port n = getD cs (length (grantsOf (run P Z cs n .events))) 0
 
     claim : (n : ℕ) (m : Meaning) → Keeps m₀ (run P Z cs n .events) m → (total-left Z (run P Z cs n) + n ≤ total-left Z begun) ⊎ AllOver Z (run P Z cs n)
     claim zero m kp = inl (omega arith)
     claim (suc n) m kp = elim (claim n (z .0) (z .1)) [
-        inr h ↦ inr (stays-over S T (a .onward .grows) m i h)
-      | inl h ↦ go (next Z T (Z .size)) (next-of Z T (Z .size)) h ]
+      | inr h ↦ inr (stays-over S T (a .onward .grows) m i h)
+      | inl h ↦ go (next Z T (Z .size)) (next-of Z T (Z .size)) h
+    ]
       where
         S : State
         S = run P Z cs n
+
         T : State
         T = moment P Z (port n) S
+
         good : Good P Z ok m₀ S
         good = good-run P Z sound ok m₀ ports idle cs n
+
         settled : Settled P Z sound ok m₀ T
         settled = settled-moment P Z sound ok m₀ (port n) S good
+
         i : Inv P Z (m₀ .limit) T m
         i = settled .fine m kp
+
         a : After P Z sound ok m₀ S T
         a = after-moment P Z sound ok m₀ (port n) S good m kp
+
         z : (l : Meaning) × Keeps m₀ (S .events) l
         z = a .onward .kept m kp
+
         no-more : total-left Z T ≤ total-left Z S
         no-more = sum-le (Z .size) (λ k. left (T .now) (Z .row k) (T .cell k)) (λ k. left (S .now) (Z .row k) (S .cell k))
             (λ k l. rw (a .onward .now) (a .onward .less k))
+
         go : (o : Option ℕ) → NextOf Z T (Z .size) o → total-left Z S + n ≤ total-left Z begun → (total-left Z (tick T) + suc n ≤ total-left Z begun) ⊎ AllOver Z (tick T)
         go None none h = inr (ended T settled m kp none)
         go (Some t) some h = inl (omega (arith, no-more, falls S T a m i t some))
@@ -146,5 +172,8 @@ module _ (P : Plan) (Z : Script) (sound : SoundPlan P) (ok : Allowed P Z) (m₀ 
     over-by n m kp long = complete-from Z (run P Z cs n) (elim (claim n m kp) [ inr h ↦ h | inl h ↦ absurd (omega arith) ])
 
 pub every-run-ends : Every-run-ends
-every-run-ends plan script = (suc (total-left script begun), λ choices n from to late g.
-    over-by plan script (g .sound) (allowed plan script (g .lawful)) from (g .ports) (g .idle) choices n to (keeps (g .turns)) late)
+every-run-ends plan script = (
+  suc (total-left script begun),
+  λ choices n from to late g.
+      over-by plan script (g .sound) (allowed plan script (g .lawful)) from (g .ports) (g .idle) choices n to (keeps (g .turns)) late,
+)

@@ -39,7 +39,6 @@ pub record Steady (P : Plan) (Z : Script) (lim : ℕ → ℕ → Limit) (S : Sta
   pub busy : (x : Turn) (k : ℕ) → k < Z .size → phase (S .cell k) ≡ at x → (y : Turn) × (j : ℕ) × (j < Z .size) × (phase (S .cell j) ≡ suc (at y))
 
 module _ (P : Plan) (Z : Script) (sound : SoundPlan P) (ok : Allowed P Z) (lim : ℕ → ℕ → Limit) (m₀ : Meaning) (S : State) (m : Meaning) (h : Steady P Z lim S m) (quiet : Quiet Z S) where
-
   abbrev i : Inv P Z lim S m
   i = h .inv
 
@@ -47,17 +46,19 @@ module _ (P : Plan) (Z : Script) (sound : SoundPlan P) (ok : Allowed P Z) (lim :
   quiet-finish c None e = refl
   quiet-finish c (Some k) e =
       cond-both a (end-a S k) (cond b (end-r S c k) S) (λ T. T ≡ S)
-        (λ t. let p = and-parts (eqb (phase (S .cell k)) 2) (eqb (S .cell k .a-end) (S .now)) t in
-          absurd (quiet k l (inr (inl (same-stage (S .cell k .stage) in-A (eqb-true (phase (S .cell k)) 2 (p .0)), eqb-true (S .cell k .a-end) (S .now) (p .1))))))
-        (λ _. cond-both b (end-r S c k) S (λ T. T ≡ S)
-          (λ t. let p = and-parts (eqb (phase (S .cell k)) 5) (eqb (S .cell k .end) (S .now)) t in
-            absurd (quiet k l (inr (inr (inr (same-stage (S .cell k .stage) in-R (eqb-true (phase (S .cell k)) 5 (p .0)), eqb-true (S .cell k .end) (S .now) (p .1)))))))
-          (λ _. refl))
+      (λ t. let p = and-parts (eqb (phase (S .cell k)) 2) (eqb (S .cell k .a-end) (S .now)) t in
+      absurd (quiet k l (inr (inl (same-stage (S .cell k .stage) in-A (eqb-true (phase (S .cell k)) 2 (p .0)), eqb-true (S .cell k .a-end) (S .now) (p .1))))))
+      (λ _. cond-both b (end-r S c k) S (λ T. T ≡ S)
+      (λ t. let p = and-parts (eqb (phase (S .cell k)) 5) (eqb (S .cell k .end) (S .now)) t in
+      absurd (quiet k l (inr (inr (inr (same-stage (S .cell k .stage) in-R (eqb-true (phase (S .cell k)) 5 (p .0)), eqb-true (S .cell k .end) (S .now) (p .1)))))))
+      (λ _. refl))
     where
       l : k < Z .size
       l = i .cores .holds c k e .known
+
       a : Bool
       a = eqb (phase (S .cell k)) 2 && eqb (S .cell k .a-end) (S .now)
+
       b : Bool
       b = eqb (phase (S .cell k)) 5 && eqb (S .cell k .end) (S .now)
 
@@ -75,9 +76,9 @@ module _ (P : Plan) (Z : Script) (sound : SoundPlan P) (ok : Allowed P Z) (lim :
           absurd (quiet k (f .0) (inl (same-stage (S .cell k .stage) unstarted (r .unstarted), h .taken c l e k (f .0) r)))
   quiet-act c l (Some k) e =
       cond-both (eqb (phase (S .cell k)) 3 && eqb (S .cell k .e-end) (S .now)) (join-r S c k) S (λ T. T ≡ S)
-        (λ t. let p = and-parts (eqb (phase (S .cell k)) 3) (eqb (S .cell k .e-end) (S .now)) t in
-          absurd (quiet k (i .cores .holds c k e .known) (inr (inr (inl (same-stage (S .cell k .stage) in-E (eqb-true (phase (S .cell k)) 3 (p .0)), eqb-true (S .cell k .e-end) (S .now) (p .1)))))))
-        (λ _. refl)
+      (λ t. let p = and-parts (eqb (phase (S .cell k)) 3) (eqb (S .cell k .e-end) (S .now)) t in
+      absurd (quiet k (i .cores .holds c k e .known) (inr (inr (inl (same-stage (S .cell k .stage) in-E (eqb-true (phase (S .cell k)) 3 (p .0)), eqb-true (S .cell k .e-end) (S .now) (p .1)))))))
+      (λ _. refl)
 
   quiet-acts : (n : ℕ) → n ≤ P .cores → acts P Z n S ≡ S
   quiet-acts zero l = refl
@@ -85,9 +86,9 @@ module _ (P : Plan) (Z : Script) (sound : SoundPlan P) (ok : Allowed P Z) (lim :
 
   quiet-granting : (p : ℕ) → granting P Z p S ≡ S
   quiet-granting p = elim (cases-bool (any (P .cores) (λ c. serving S (S .has c)))) [
-      inl e ↦ cond-true (any (P .cores) (λ c. serving S (S .has c))) S _ e
+    | inl e ↦ cond-true (any (P .cores) (λ c. serving S (S .has c))) S _ e
     | inr e ↦ cond-false (any (P .cores) (λ c. serving S (S .has c))) S _ e ∙ elim (cases-bool (any (P .cores) (λ c. waits-now S (S .has c)))) [
-        inr f ↦ cond-false (any (P .cores) (λ c. waits-now S (S .has c))) (grant-at Z S p (S .has p)) S f
+      | inr f ↦ cond-false (any (P .cores) (λ c. waits-now S (S .has c))) (grant-at Z S p (S .has p)) S f
       | inl f ↦ (
           let z = any-true (P .cores) (λ c. waits-now S (S .has c)) f in
           let w = waiting-true P Z sound ok lim S m i (S .has (z .0)) (z .2) in
@@ -95,8 +96,10 @@ module _ (P : Plan) (Z : Script) (sound : SoundPlan P) (ok : Allowed P Z) (lim :
           let b = h .busy (w .0) (w .1) k (w .3) in
           let g = i .cores .held (b .1) (b .2) (omega (arith, b .3)) (omega (arith, b .3, at-some (b .0))) in
           absurd (both-ways (any (P .cores) (λ c. serving S (S .has c))) e
-            (any-from (P .cores) (λ c. serving S (S .has c)) (coreAt P Z (b .1)) (core-below P Z sound ok m₀ (b .1) (b .2))
-              (ap (serving S) g ∙ serving-from P Z sound ok lim S m i (b .0) (b .1) (b .3))))) ] ]
+          (any-from (P .cores) (λ c. serving S (S .has c)) (coreAt P Z (b .1)) (core-below P Z sound ok m₀ (b .1) (b .2))
+          (ap (serving S) g ∙ serving-from P Z sound ok lim S m i (b .0) (b .1) (b .3)))))
+    ]
+  ]
 
   pub quiet-moment : (p : ℕ) → moment P Z p S ≡ S
   quiet-moment p =
@@ -107,18 +110,22 @@ module _ (P : Plan) (Z : Script) (sound : SoundPlan P) (ok : Allowed P Z) (lim :
 pub steady-run : (P : Plan) (Z : Script) (sound : SoundPlan P) (ok : Allowed P Z) (m₀ : Meaning) → m₀ .ports ≡ P .cores → Idle m₀
     → (cs : List ℕ) (n : ℕ) (m : Meaning) → Keeps m₀ (run P Z cs n .events) m → Steady P Z (m₀ .limit) (run P Z cs n) m
 steady-run P Z sound ok m₀ ports idle cs zero m kp = record {
-    inv = good-run P Z sound ok m₀ ports idle cs zero m kp;
-    taken = λ c l e k b r. (let u = r .released in omega arith);
-    busy = λ x k l e. absurd (omega (arith, at-some x)) }
+  inv = good-run P Z sound ok m₀ ports idle cs zero m kp;
+  taken = λ c l e k b r. (let u = r .released in omega arith);
+  busy = λ x k l e. absurd (omega (arith, at-some x));
+}
 steady-run P Z sound ok m₀ ports idle cs (suc n) m kp = record {
-    inv = good-run P Z sound ok m₀ ports idle cs (suc n) m kp;
-    taken = λ c l e k b r. elim (cases-eq (Z .row k .release) (suc (T .now))) [
-        inl u ↦ u
-      | inr u ↦ absurd (h .acted c l e k b (record { same = r .same; released = (let v = r .released in omega arith); unstarted = r .unstarted })) ];
-    busy = h .busy m kp }
+  inv = good-run P Z sound ok m₀ ports idle cs (suc n) m kp;
+  taken = λ c l e k b r. elim (cases-eq (Z .row k .release) (suc (T .now))) [
+    | inl u ↦ u
+    | inr u ↦ absurd (h .acted c l e k b (record { same = r .same; released = (let v = r .released in omega arith); unstarted = r .unstarted }))
+  ];
+  busy = h .busy m kp;
+}
   where
     T : State
     T = moment P Z (getD cs (length (grantsOf (run P Z cs n .events))) 0) (run P Z cs n)
+
     h : Settled P Z sound ok m₀ T
     h = settled-moment P Z sound ok m₀ (getD cs (length (grantsOf (run P Z cs n .events))) 0) (run P Z cs n) (good-run P Z sound ok m₀ ports idle cs n)
 
@@ -164,7 +171,7 @@ pub quiet-run : A-quiet-moment-changes-nothing
 quiet-run plan script choices n from to port g quiet =
     let ok = allowed plan script (g .lawful) in
     quiet-moment plan script (g .sound) ok (from .limit) from (run plan script choices n) to
-      (steady-run plan script (g .sound) ok from (g .ports) (g .idle) choices n to (keeps (g .turns))) quiet port
+    (steady-run plan script (g .sound) ok from (g .ports) (g .idle) choices n to (keeps (g .turns))) quiet port
 
 -- one tick further
 jump-on : (plan : Plan) (script : Script) (choices : List ℕ) (n : ℕ) (from to : Meaning) → AllowedRun plan script choices n from to
@@ -173,8 +180,14 @@ jump-on : (plan : Plan) (script : Script) (choices : List ℕ) (n : ℕ) (from t
 jump-on plan script choices n from to g u ih quiet = ap tick (still ∙ ih)
   where
     g′ : AllowedRun plan script choices u from to
-    g′ = record { sound = g .sound; lawful = g .lawful; ports = g .ports; idle = g .idle;
-      turns = subst (λ (T : State). Turns from (T .events) to) (sym ih) (g .turns) }
+    g′ = record {
+      sound = g .sound;
+      lawful = g .lawful;
+      ports = g .ports;
+      idle = g .idle;
+      turns = subst (λ (T : State). Turns from (T .events) to) (sym ih) (g .turns);
+    }
+
     still : moment plan script (getD choices (length (grantsOf (run plan script choices u .events))) 0) (run plan script choices u) ≡ run plan script choices u
     still = quiet-run plan script choices u from to (getD choices (length (grantsOf (run plan script choices u .events))) 0) g′
         (subst (Quiet script) (sym ih) quiet)
@@ -185,13 +198,13 @@ jump : (plan : Plan) (script : Script) (choices : List ℕ) (n : ℕ) (from to :
 jump plan script choices n from to g zero t e quiet =
     let u : t ≡ n = omega arith in
     subst (λ s. run plan script choices s ≡ at-moment s (run plan script choices n)) (sym u)
-      (subst (λ s. run plan script choices n ≡ at-moment s (run plan script choices n)) (now-run plan script choices n) refl)
+    (subst (λ s. run plan script choices n ≡ at-moment s (run plan script choices n)) (now-run plan script choices n) refl)
 jump plan script choices n from to g (suc d) t e quiet =
     let e′ : t ≡ suc (n + d) = omega arith in
     subst (λ s. run plan script choices s ≡ at-moment s (run plan script choices n)) (sym e′)
-      (jump-on plan script choices n from to g (n + d)
-        (jump plan script choices n from to g d (n + d) refl (λ s a b. quiet s a (omega arith)))
-        (quiet (n + d) (omega arith) (omega arith)))
+    (jump-on plan script choices n from to g (n + d)
+    (jump plan script choices n from to g d (n + d) refl (λ s a b. quiet s a (omega arith)))
+    (quiet (n + d) (omega arith) (omega arith)))
 
 pub time-may-jump : Time-may-jump
 time-may-jump plan script choices n t from to le g quiet = jump plan script choices n from to g (t - n) t (omega arith) quiet

@@ -27,7 +27,6 @@ use Rattle.bridge.proofs.Moves.{Inv}
 use Rattle.bridge.proofs.Ticks.{good-run}
 
 module _ (P : Plan) (Z : Script) (ok : Allowed P Z) (lim : ℕ → ℕ → Limit) (S : State) (m : Meaning) (i : Inv P Z lim S m) (whole : Complete Z S) where
-
   ended-all : (k : ℕ) → k < Z .size → phase (S .cell k) ≡ 6
   ended-all k l = ap number (whole k l)
 
@@ -47,24 +46,26 @@ module _ (P : Plan) (Z : Script) (ok : Allowed P Z) (lim : ℕ → ℕ → Limit
       let f = i .fits k l in
       let o = ended-all k l in
       elim (i .past .taken k t l (omega (arith, f .begun (omega arith))) r) [
-        inl b ↦ absurd (omega (arith, b .from))
-      | inr z ↦ (
-          let j = z .0 in
-          let h = z .1 in
-          (j, record { known = h .known; same = h .same; from = h .from; to = h .to (omega (arith, ended-all j (h .known))) })) ]
+        | inl b ↦ absurd (omega (arith, b .from))
+        | inr z ↦ (
+            let j = z .0 in
+            let h = z .1 in
+            (j, record { known = h .known; same = h .same; from = h .from; to = h .to (omega (arith, ended-all j (h .known))) }))
+      ]
 
   right : (j k : ℕ) → j < Z .size → k < Z .size → coreOf P (L .job j) ≡ coreOf P (L .job k)
       → L .job k .release ≤ L .job j .start → L .job j .start < L .job k .start → Before P (L .job j) (L .job k)
   right j k a b same r s =
       elim (i .past .right j k a b same (omega (arith, ended-all j a)) r) [
-        inl h ↦ absurd (omega (arith, h .from))
-      | inr g ↦ g ]
+        | inl h ↦ absurd (omega (arith, h .from))
+        | inr g ↦ g
+      ]
 
   carried : (x : Turn) (k : ℕ) → k < Z .size → (t : ℕ) → joined x (L .job k) ≤ t → t < granted x (L .job k)
       → (y : Turn) × (j : ℕ) × Carried P L k t y j
   carried x k l t a b =
       let z = i .past .carried x k t l (omega (arith, granted-now Z k (S .now) (Z .row k .release) (taskAt P Z k .a) (taskAt P Z k .e) (taskAt P Z k .r) (S .cell k) (i .fits k l) x (omega (arith, ended-all k l, at-some x))))
-          (omega (arith, ended-all k l, at-some x)) a (λ _. b) in
+      (omega (arith, ended-all k l, at-some x)) a (λ _. b) in
       let h = z .2 in
       (z .0, z .1, record { known = h .known; other = h .other; from = h .from; to = h .to })
 
@@ -77,13 +78,13 @@ module _ (P : Plan) (Z : Script) (ok : Allowed P Z) (lim : ℕ → ℕ → Limit
       (λ j. on (eqb (coreOf P (L .job j)) b) (on (meets x (L .job k) A (L .job j)) 1 + on (meets x (L .job k) R (L .job j)) 1))
       (λ j. on (eqb (coreAt P Z j) b) (seen Z (S .cell) (granted x (L .job k)) (joined x (L .job k)) A j + seen Z (S .cell) (granted x (L .job k)) (joined x (L .job k)) R j))
       (λ j l. on-mono (eqb (coreAt P Z j) b) (on (meets x (L .job k) A (L .job j)) 1 + on (meets x (L .job k) R (L .job j)) 1)
-        (seen Z (S .cell) (granted x (L .job k)) (joined x (L .job k)) A j + seen Z (S .cell) (granted x (L .job k)) (joined x (L .job k)) R j)
-        (omega (arith, met-seen x k A j l, met-seen x k R j l)))
+      (seen Z (S .cell) (granted x (L .job k)) (joined x (L .job k)) A j + seen Z (S .cell) (granted x (L .job k)) (joined x (L .job k)) R j)
+      (omega (arith, met-seen x k A j l, met-seen x k R j l)))
 
   limited : (x : Turn) (k : ℕ) → k < Z .size → (b : ℕ) → b < P .cores → (b ≡ coreOf P (L .job k) → ⊥) → Within (lim (coreOf P (L .job k)) b) (met P L x (L .job k) b)
   limited x k l b h ne =
       within-le (lim (coreAt P Z k) b) (met P L x (L .job k) b) (sight P Z (S .cell) (granted x (L .job k)) (joined x (L .job k)) b) (met-sight x k b)
-        (i .past .kept x k b l h ne (omega (arith, ended-all k l, at-some x)))
+      (i .past .kept x k b l h ne (omega (arith, ended-all k l, at-some x)))
 
   pub lawful : KeepsTheLaws P lim L
   lawful possible-moments = possible

@@ -12,10 +12,10 @@ use Rattle.bridge.proofs.Cells.{phase}
 abbrev pub left : ℕ → Release → Cell → ℕ
 left now z x =
     cond (eqb (phase x) 0) ((z .release - now) + (z .a + z .e + z .r))
-      (cond (eqb (phase x) 1) (z .a + z .e + z .r)
-        (cond (leb (phase x) 3) ((x .e-end - now) + z .r)
-          (cond (eqb (phase x) 4) (z .r)
-            (cond (eqb (phase x) 5) (x .end - now) 0))))
+    (cond (eqb (phase x) 1) (z .a + z .e + z .r)
+    (cond (leb (phase x) 3) ((x .e-end - now) + z .r)
+    (cond (eqb (phase x) 4) (z .r)
+    (cond (eqb (phase x) 5) (x .end - now) 0))))
 
 module _ (now : ℕ) (z : Release) (x : Cell) where
   pub left-0 : phase x ≡ 0 → left now z x ≡ (z .release - now) + (z .a + z .e + z .r)

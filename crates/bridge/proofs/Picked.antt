@@ -3,7 +3,8 @@ use mathlib.Core.Path.{_≡_, refl, sym, ap, subst, _∙_}
 use mathlib.Core.Logic.{_⊎_, inl, inr}
 use mathlib.Core.Bool.{Bool, cond, _&&_}
 use mathlib.Core.List.{List, [], _∷_}
-use Prim.Native.Nat.{ℕ, zero, suc}
+use Prim.Native.Nat.{ℕ, zero, suc, _+_}
+use native.Mathlib.Omega.{arith}
 use lib.Dec.{eqb}
 use lib.ListN.{length, getD}
 use Rattle.std.proofs.shelf.Tests.{cond-both}
@@ -62,43 +63,67 @@ longer-before P Z S = extends-on (longer-finishes (P .cores) S) (longer-acts P Z
 
 pub longer-moment : (P : Plan) (Z : Script) (p : ℕ) (S : State) → Longer S (moment P Z p S)
 longer-moment P Z p S = elim (choice P Z (Before P Z S)) [
-    nobody h ↦ subst (λ (T : State). Longer S T) (sym (h p)) (longer-before P Z S)
+  | nobody h ↦ subst (λ (T : State). Longer S T) (sym (h p)) (longer-before P Z S)
   | somebody h ↦ subst (λ es. Extends (S .events) es) (sym (ap (λ (T : State). T .events) (h p) ∙ grant-events Z (Before P Z S) p (Before P Z S .has p)))
-      (more (grants p) (longer-before P Z S)) ]
+      (more (grants p) (longer-before P Z S))
+]
 
--- a course goes through its earlier values
-pub earlier : {X : Type 0} (means : Means X) (s : X) {es fs : List Event} (t : X) → Extends es fs → Course means s fs t → (u : X) × Course means s es u
-earlier means s t same c = (t, c)
-earlier means s t (more e h) (Course.join {t = u} c j) = earlier means s u h c
-earlier means s t (more e h) (Course.grant {t = u} c g) = earlier means s u h c
-earlier means s t (more e h) (Course.done {t = u} c d) = earlier means s u h c
+-- each grant is the picked one
+abbrev pub Followed : (List Event → ℕ) → List Event → Type 0
+Followed pick [] = Unit {0}
+Followed pick (joins a ∷ es) = Followed pick es
+Followed pick (grants c ∷ es) = (c ≡ pick es) × Followed pick es
+Followed pick (ends ∷ es) = Followed pick es
 
--- the last grant is the picked one
-last-pick : {X : Type 0} (means : Means X) (s : X) (pick : List Event → ℕ) → Picks means s pick → (p : ℕ) (es : List Event) (t : X) → Course means s (grants p ∷ es) t → p ≡ pick es
-last-pick means s pick picks p es t (Course.grant {t = u} c g) = picks es p u t c g
+pub followed : {X : Type 0} (means : Means X) (s : X) (pick : List Event → ℕ) → Picks means s pick → {es : List Event} {t : X} → Course means s es t → Followed pick es
+followed means s pick picks (Course.start) = tt
+followed means s pick picks (Course.join c j) = followed means s pick picks c
+followed means s pick picks (Course.grant {t = u} {u = v} {c = p} {es = es} c g) = (picks es p u v c g, followed means s pick picks c)
+followed means s pick picks (Course.done c d) = followed means s pick picks c
 
-pub the-only-ones : {X : Type 0} (means : Means X) → Picked-grants-are-the-only-ones means
-the-only-ones means P Z pick s s′ a b cs ds zero t t′ c d = refl
-the-only-ones {X} means P Z pick s s′ a b cs ds (suc n) t t′ c d =
-    let before-c = earlier means s t (longer-moment P Z (getD cs (many P Z cs n) 0) (run P Z cs n)) c in
-    let before-d = earlier means s′ t′ (longer-moment P Z (getD ds (many P Z ds n) 0) (run P Z ds n)) d in
-    go (the-only-ones means P Z pick s s′ a b cs ds n (before-c .0) (before-d .0) (before-c .1) (before-d .1))
+pub followed-less : (pick : List Event → ℕ) {es fs : List Event} → Extends es fs → Followed pick fs → Followed pick es
+followed-less pick same h = h
+followed-less pick (more (joins a) x) h = followed-less pick x h
+followed-less pick (more (grants c) x) h = followed-less pick x (h .1)
+followed-less pick (more ends x) h = followed-less pick x h
+
+-- two runs that follow the same picks are the same
+pub same-run : (P : Plan) (Z : Script) (pick : List Event → ℕ) (cs ds : List ℕ) (n : ℕ) → Followed pick (run P Z cs n .events) → Followed pick (run P Z ds n .events) → run P Z cs n ≡ run P Z ds n
+same-run P Z pick cs ds zero c d = refl
+same-run P Z pick cs ds (suc n) c d =
+    go (same-run P Z pick cs ds n
+    (followed-less pick (longer-moment P Z (getD cs (many P Z cs n) 0) (run P Z cs n)) c)
+    (followed-less pick (longer-moment P Z (getD ds (many P Z ds n) 0) (run P Z ds n)) d))
   where
     S : State
     S = run P Z cs n
+
     T : State
     T = run P Z ds n
+
     p : ℕ
     p = getD cs (many P Z cs n) 0
+
     q : ℕ
     q = getD ds (many P Z ds n) 0
+
     go : S ≡ T → tick (moment P Z p S) ≡ tick (moment P Z q T)
     go e = elim (choice P Z (Before P Z S)) [
-        nobody h ↦ ap tick (h p ∙ sym (h q) ∙ ap (moment P Z q) e)
+      | nobody h ↦ ap tick (h p ∙ sym (h q) ∙ ap (moment P Z q) e)
       | somebody h ↦ (
-          let x = last-pick means s pick a p (Before P Z S .events) t
-              (subst (λ es. Course means s es t) (ap (λ (U : State). U .events) (h p) ∙ grant-events Z (Before P Z S) p (Before P Z S .has p)) c) in
-          let d′ = subst (λ (U : State). Course means s′ (moment P Z q U .events) t′) (sym e) d in
-          let y = last-pick means s′ pick b q (Before P Z S .events) t′
-              (subst (λ es. Course means s′ es t′) (ap (λ (U : State). U .events) (h q) ∙ grant-events Z (Before P Z S) q (Before P Z S .has q)) d′) in
-          ap tick (ap (λ r. moment P Z r S) (x ∙ sym y) ∙ ap (moment P Z q) e)) ]
+          let x = subst (Followed pick) (ap (λ (U : State). U .events) (h p) ∙ grant-events Z (Before P Z S) p (Before P Z S .has p)) c in
+          let d′ = subst (λ (U : State). Followed pick (moment P Z q U .events)) (sym e) d in
+          let y = subst (Followed pick) (ap (λ (U : State). U .events) (h q) ∙ grant-events Z (Before P Z S) q (Before P Z S .has q)) d′ in
+          ap tick (ap (λ r. moment P Z r S) (x .0 ∙ sym (y .0)) ∙ ap (moment P Z q) e))
+    ]
+
+-- the events of a run grow
+pub longer-run : (P : Plan) (Z : Script) (cs : List ℕ) (n d t : ℕ) → t ≡ n + d → Extends (run P Z cs n .events) (run P Z cs t .events)
+longer-run P Z cs n zero t e = let u : n ≡ t = omega arith in subst (λ s. Extends (run P Z cs n .events) (run P Z cs s .events)) u same
+longer-run P Z cs n (suc d) t e =
+    let u : suc (n + d) ≡ t = omega arith in
+    subst (λ s. Extends (run P Z cs n .events) (run P Z cs s .events)) u
+    (extends-on (longer-run P Z cs n d (n + d) refl) (longer-moment P Z (getD cs (many P Z cs (n + d)) 0) (run P Z cs (n + d))))
+
+pub the-only-ones : {X : Type 0} (means : Means X) → Picked-grants-are-the-only-ones means
+the-only-ones means P Z pick s s′ a b cs ds n t t′ c d = same-run P Z pick cs ds n (followed means s pick a c) (followed means s′ pick b d)

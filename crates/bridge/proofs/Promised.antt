@@ -29,16 +29,20 @@ other-limits plan limits m log sound ports same h never-free = h never-free
 other-limits plan limits m log sound ports same h limits-kept = λ turn k l core b ne.
     let p = sound .placed (log .job k .task) (h possible-moments k l .known) in
     subst (λ limit. Within limit (met plan log turn (log .job k) core))
-      (same (coreOf plan (log .job k)) core (omega arith) (omega arith) ne)
-      (h limits-kept turn k l core b ne)
+    (same (coreOf plan (log .job k)) core (omega arith) (omega arith) ne)
+    (h limits-kept turn k l core b ne)
 
 pub promised : {X : Type 0} (means : Means X) → Laws means → Every-job-of-every-run-ends-within-its-window means
 promised means laws plan limits windows sound covered script lawful =
-    let ends = every-run-ends plan script in
-    (ends .0, λ s choices n t stands idle ports same late course.
-      let rule = keeps-rule means laws s (run plan script choices n .events) t stands course in
-      let g : AllowedRun plan script choices n (means .meaning s) (means .meaning t) = record { sound = sound; lawful = lawful; ports = ports; idle = idle; turns = rule .0 } in
-      let whole = ends .1 choices n (means .meaning s) (means .meaning t) late g in
-      (whole, in-time plan limits (logOf script (run plan script choices n)) windows sound covered
-        (other-limits plan limits (means .meaning s) (logOf script (run plan script choices n)) sound ports same
-          (every-run-keeps-the-laws plan script choices n (means .meaning s) (means .meaning t) g whole))))
+    let ends = every-run-ends plan script in (
+      ends .0,
+      λ s choices n t stands idle ports same late course.
+          let rule = keeps-rule means laws s (run plan script choices n .events) t stands course in
+          let g : AllowedRun plan script choices n (means .meaning s) (means .meaning t) = record { sound = sound; lawful = lawful; ports = ports; idle = idle; turns = rule .0 } in
+          let whole = ends .1 choices n (means .meaning s) (means .meaning t) late g in (
+            whole,
+            in-time plan limits (logOf script (run plan script choices n)) windows sound covered
+                (other-limits plan limits (means .meaning s) (logOf script (run plan script choices n)) sound ports same
+                (every-run-keeps-the-laws plan script choices n (means .meaning s) (means .meaning t) g whole)),
+          ),
+    )

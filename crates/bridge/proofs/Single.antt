@@ -70,10 +70,12 @@ pub data Choice (P : Plan) (Z : Script) (S : State) : Type 0 where
 
 pub choice : (P : Plan) (Z : Script) (S : State) → Choice P Z S
 choice P Z S = elim (cases-bool (any (P .cores) (λ c. serving S (S .has c)))) [
-    inl e ↦ nobody (λ p. cond-true (any (P .cores) (λ c. serving S (S .has c))) S _ e)
+  | inl e ↦ nobody (λ p. cond-true (any (P .cores) (λ c. serving S (S .has c))) S _ e)
   | inr e ↦ elim (cases-bool (any (P .cores) (λ c. waits-now S (S .has c)))) [
-      inr f ↦ nobody (λ p. cond-false (any (P .cores) (λ c. serving S (S .has c))) S _ e ∙ cond-false (any (P .cores) (λ c. waits-now S (S .has c))) (grant-at Z S p (S .has p)) S f)
-    | inl f ↦ somebody (λ p. cond-false (any (P .cores) (λ c. serving S (S .has c))) S _ e ∙ cond-true (any (P .cores) (λ c. waits-now S (S .has c))) (grant-at Z S p (S .has p)) S f) ] ]
+    | inr f ↦ nobody (λ p. cond-false (any (P .cores) (λ c. serving S (S .has c))) S _ e ∙ cond-false (any (P .cores) (λ c. waits-now S (S .has c))) (grant-at Z S p (S .has p)) S f)
+    | inl f ↦ somebody (λ p. cond-false (any (P .cores) (λ c. serving S (S .has c))) S _ e ∙ cond-true (any (P .cores) (λ c. waits-now S (S .has c))) (grant-at Z S p (S .has p)) S f)
+  ]
+]
 
 -- ---- choices that agree as far as they are used
 
@@ -82,11 +84,11 @@ abbrev pub many : Plan → Script → List ℕ → ℕ → ℕ
 many P Z cs n = length (grantsOf (run P Z cs n .events))
 
 module _ (P : Plan) (Z : Script) where
-
   many-on : (cs : List ℕ) (n : ℕ) → many P Z cs n ≤ many P Z cs (suc n)
   many-on cs n = elim (choice P Z (Before P Z (run P Z cs n))) [
-      nobody h ↦ (let e = ap G (h p) ∙ grants-before P Z (run P Z cs n) in rw e (omega arith))
-    | somebody h ↦ (let e = ap G (h p) ∙ grants-grant Z (Before P Z (run P Z cs n)) p (Before P Z (run P Z cs n) .has p) ∙ ap (_∷_ p) (grants-before P Z (run P Z cs n)) in rw e (omega arith)) ]
+    | nobody h ↦ (let e = ap G (h p) ∙ grants-before P Z (run P Z cs n) in rw e (omega arith))
+    | somebody h ↦ (let e = ap G (h p) ∙ grants-grant Z (Before P Z (run P Z cs n)) p (Before P Z (run P Z cs n) .has p) ∙ ap (_∷_ p) (grants-before P Z (run P Z cs n)) in rw e (omega arith))
+  ]
     where
       p : ℕ
       p = getD cs (many P Z cs n) 0
@@ -97,17 +99,22 @@ module _ (P : Plan) (Z : Script) where
     where
       S : State
       S = run P Z cs n
+
       p : ℕ
       p = getD cs (many P Z cs n) 0
+
       q : ℕ
       q = getD ds (many P Z cs n) 0
+
       same : moment P Z p S ≡ moment P Z q S
       same = elim (choice P Z (Before P Z S)) [
-          nobody c ↦ c p ∙ sym (c q)
+        | nobody c ↦ c p ∙ sym (c q)
         | somebody c ↦ (
             let e = ap G (c p) ∙ grants-grant Z (Before P Z S) p (Before P Z S .has p) ∙ ap (_∷_ p) (grants-before P Z S) in
             let l : many P Z cs n < length (G (moment P Z p S)) = rw e (omega arith) in
-            ap (λ x. moment P Z x S) (h (many P Z cs n) l)) ]
+            ap (λ x. moment P Z x S) (h (many P Z cs n) l))
+      ]
+
       go : run P Z cs n ≡ run P Z ds n → run P Z cs (suc n) ≡ run P Z ds (suc n)
       go e = ap tick (same ∙ ap (λ T. moment P Z (getD ds (length (grantsOf (T .events))) 0) T) e)
 
@@ -122,13 +129,16 @@ module _ (P : Plan) (Z : Script) where
     where
       S : State
       S = run P Z cs n
+
       p : ℕ
       p = getD cs (many P Z cs n) 0
+
       go : grantsOf (S .events) ≡ listing cs (many P Z cs n) → grantsOf (run P Z cs (suc n) .events) ≡ listing cs (many P Z cs (suc n))
       go ih = elim (choice P Z (Before P Z S)) [
-          nobody c ↦ (let e = ap G (c p) ∙ grants-before P Z S in rw e ih)
+        | nobody c ↦ (let e = ap G (c p) ∙ grants-before P Z S in rw e ih)
         | somebody c ↦ (let e = ap G (c p) ∙ grants-grant Z (Before P Z S) p (Before P Z S .has p) ∙ ap (_∷_ p) (grants-before P Z S) in
-            rw e (ap (_∷_ p) ih)) ]
+            rw e (ap (_∷_ p) ih))
+      ]
 
   same-listing : (cs ds : List ℕ) (a b : ℕ) → listing cs a ≡ listing ds b → (i : ℕ) → i < a → getD cs i 0 ≡ getD ds i 0
   same-listing cs ds zero b e i l = absurd (omega arith)
@@ -136,20 +146,21 @@ module _ (P : Plan) (Z : Script) where
   same-listing cs ds (suc a) (suc b) e i l =
       let ab : a ≡ b = lengths (ap length e) in
       elim (cases-eq i a) [
-        inl u ↦ (let h : getD cs a 0 ≡ getD ds b 0 = cc in ap (λ j. getD cs j 0) u ∙ h ∙ ap (λ j. getD ds j 0) (sym (u ∙ ab)))
-      | inr u ↦ (let t : listing cs a ≡ listing ds b = cc in same-listing cs ds a b t i (omega arith)) ]
+        | inl u ↦ (let h : getD cs a 0 ≡ getD ds b 0 = cc in ap (λ j. getD cs j 0) u ∙ h ∙ ap (λ j. getD ds j 0) (sym (u ∙ ab)))
+        | inr u ↦ (let t : listing cs a ≡ listing ds b = cc in same-listing cs ds a b t i (omega arith))
+      ]
     where
       long : (xs : List ℕ) (n : ℕ) → length (listing xs n) ≡ n
       long xs zero = refl
       long xs (suc n) = ap suc (long xs n)
+
       lengths : length (listing cs (suc a)) ≡ length (listing ds (suc b)) → a ≡ b
       lengths h = omega (arith, long cs a, long ds b)
 
 -- ---- a run that is over stays as it is
 
 module _ (P : Plan) (Z : Script) (sound : SoundPlan P) (ok : Allowed P Z) (m₀ : Meaning) (ports : m₀ .ports ≡ P .cores) (idle : Idle m₀) (cs : List ℕ) where
-
-  grown : (n d t : ℕ) → t ≡ n + d → (m : Meaning) → Keeps m₀ (run P Z cs t .events) m → (j : ℕ) → Grows (run P Z cs n .cell j) (run P Z cs t .cell j)
+  pub grown : (n d t : ℕ) → t ≡ n + d → (m : Meaning) → Keeps m₀ (run P Z cs t .events) m → (j : ℕ) → Grows (run P Z cs n .cell j) (run P Z cs t .cell j)
   grown n zero t e m kp j = let u : t ≡ n = omega arith in subst (λ s. Grows (run P Z cs n .cell j) (run P Z cs s .cell j)) (sym u) (grows-same (run P Z cs n .cell j))
   grown n (suc d) t e m kp j =
       let u : t ≡ suc (n + d) = omega arith in
@@ -158,10 +169,10 @@ module _ (P : Plan) (Z : Script) (sound : SoundPlan P) (ok : Allowed P Z) (m₀ 
       let a = after-moment P Z sound ok m₀ p (run P Z cs (n + d)) (good-run P Z sound ok m₀ ports idle cs (n + d)) m k in
       let z = a .onward .kept m k in
       subst (λ s. Grows (run P Z cs n .cell j) (run P Z cs s .cell j)) (sym u)
-        (grows-on (run P Z cs n .cell j) (run P Z cs (n + d) .cell j) (run P Z cs (suc (n + d)) .cell j)
-          (grown n d (n + d) refl (z .0) (z .1) j) (a .onward .grows j))
+      (grows-on (run P Z cs n .cell j) (run P Z cs (n + d) .cell j) (run P Z cs (suc (n + d)) .cell j)
+      (grown n d (n + d) refl (z .0) (z .1) j) (a .onward .grows j))
 
-same-row : (Z : Script) (k : ℕ) (x y : Cell) → phase x ≡ 6 → Grows x y → jobOf Z k y ≡ jobOf Z k x
+pub same-row : (Z : Script) (k : ℕ) (x y : Cell) → phase x ≡ 6 → Grows x y → jobOf Z k y ≡ jobOf Z k x
 same-row Z k x y e g =
     let a = g .start (omega arith) in
     let b = g .a-granted (omega arith) in
@@ -179,15 +190,16 @@ in-order : (plan : Plan) (script : Script) (choices choices′ : List ℕ) (n n�
     → (k : ℕ) → k < script .size → logOf script (run plan script choices n) .job k ≡ logOf script (run plan script choices′ n′) .job k
 in-order plan script choices choices′ n n′ from to from′ to′ le g whole g′ same k l =
     let e = agree plan script choices choices′ n
-        (same-listing plan script choices choices′ (many plan script choices n) (many plan script choices′ n′)
-          (sym (listed plan script choices n) ∙ same ∙ listed plan script choices′ n′)) in
+    (same-listing plan script choices choices′ (many plan script choices n) (many plan script choices′ n′)
+    (sym (listed plan script choices n) ∙ same ∙ listed plan script choices′ n′)) in
     let grows = grown plan script (g′ .sound) (allowed plan script (g′ .lawful)) from′ (g′ .ports) (g′ .idle) choices′ n (n′ - n) n′ (omega arith) to′ (keeps (g′ .turns)) k in
     let six : phase (run plan script choices n .cell k) ≡ 6 = ap number (whole k l) in
     ap (λ (T : State). jobOf script k (T .cell k)) e
-      ∙ sym (same-row script k (run plan script choices′ n .cell k) (run plan script choices′ n′ .cell k) (ap (λ (T : State). phase (T .cell k)) (sym e) ∙ six) grows)
+    ∙ sym (same-row script k (run plan script choices′ n .cell k) (run plan script choices′ n′ .cell k) (ap (λ (T : State). phase (T .cell k)) (sym e) ∙ six) grows)
 
 pub the-log-is-single : The-log-is-single
 the-log-is-single plan script choices choices′ n n′ from to from′ to′ g whole g′ whole′ same k l =
     elim (cases-lt n n′) [
-      inl u ↦ in-order plan script choices choices′ n n′ from to from′ to′ (omega arith) g whole g′ same k l
-    | inr u ↦ sym (in-order plan script choices′ choices n′ n from′ to′ from to u g′ whole′ g (sym same) k l) ]
+      | inl u ↦ in-order plan script choices choices′ n n′ from to from′ to′ (omega arith) g whole g′ same k l
+      | inr u ↦ sym (in-order plan script choices′ choices n′ n from′ to′ from to u g′ whole′ g (sym same) k l)
+    ]

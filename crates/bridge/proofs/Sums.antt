@@ -20,8 +20,9 @@ pub sum-bump : (n : ℕ) (f g : ℕ → ℕ) (q : ℕ) → ((k : ℕ) → k < n 
 sum-bump zero f g q h s = omega arith
 sum-bump (suc n) f g q h s =
     elim (cases-eq n q) [
-      inl e ↦ omega (arith, sum-le n g f (λ k l. h k (omega arith) (λ u. omega arith)), subst (λ x. x < suc n → g x ≤ suc (f x)) (sym e) s (omega arith))
-    | inr ne ↦ omega (arith, h n (omega arith) ne, sum-bump n f g q (λ k l. h k (omega arith)) (λ l. s (omega arith))) ]
+      | inl e ↦ omega (arith, sum-le n g f (λ k l. h k (omega arith) (λ u. omega arith)), subst (λ x. x < suc n → g x ≤ suc (f x)) (sym e) s (omega arith))
+      | inr ne ↦ omega (arith, h n (omega arith) ne, sum-bump n f g q (λ k l. h k (omega arith)) (λ l. s (omega arith)))
+    ]
 
 pub on-le : (b : Bool) (x : ℕ) → on b x ≤ x
 on-le true x = omega arith
@@ -49,8 +50,9 @@ sum-lt zero f g h q l s = omega arith
 sum-lt (suc n) f g h q l s =
     let below : (k : ℕ) → k < n → f k ≤ g k = λ k m. h k (omega arith) in
     elim (cases-eq n q) [
-      inr ne ↦ omega (arith, h n (omega arith), sum-lt n f g below q (omega arith) s)
-    | inl e ↦ omega (arith, sum-le n f g below, subst (λ x. f x < g x) (sym e) s) ]
+      | inr ne ↦ omega (arith, h n (omega arith), sum-lt n f g below q (omega arith) s)
+      | inl e ↦ omega (arith, sum-le n f g below, subst (λ x. f x < g x) (sym e) s)
+    ]
 
 pub sum-most : (n c : ℕ) (f : ℕ → ℕ) → ((k : ℕ) → k < n → f k ≤ c) → sum n f ≤ c * n
 sum-most zero c f h = omega arith
@@ -60,5 +62,6 @@ pub sum-point : (n : ℕ) (f : ℕ → ℕ) (q : ℕ) → q < n → f q ≤ sum 
 sum-point zero f q l = omega arith
 sum-point (suc n) f q l =
     elim (cases-eq n q) [
-      inr ne ↦ omega (arith, sum-point n f q (omega arith))
-    | inl e ↦ omega (arith, ap f e) ]
+      | inr ne ↦ omega (arith, sum-point n f q (omega arith))
+      | inl e ↦ omega (arith, ap f e)
+    ]

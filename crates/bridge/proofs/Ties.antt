@@ -26,26 +26,29 @@ use Rattle.bridge.proofs.Steps.{any-true, any-false}
 
 pub any-from : (n : ℕ) (p : ℕ → Bool) (k : ℕ) → k < n → p k ≡ true → any n p ≡ true
 any-from n p k l e = elim (cases-bool (any n p)) [
-    inl a ↦ a
-  | inr a ↦ absurd (both-ways (p k) (any-false n p a k l) e) ]
+  | inl a ↦ a
+  | inr a ↦ absurd (both-ways (p k) (any-false n p a k l) e)
+]
 
 pub any-none : (n : ℕ) (p : ℕ → Bool) → ((k : ℕ) → k < n → p k ≡ true → ⊥) → any n p ≡ false
 any-none n p h = elim (cases-bool (any n p)) [
-    inr a ↦ a
-  | inl a ↦ (let z = any-true n p a in absurd (h (z .0) (z .1) (z .2))) ]
+  | inr a ↦ a
+  | inl a ↦ (let z = any-true n p a in absurd (h (z .0) (z .1) (z .2)))
+]
 
 module _ (P : Plan) (Z : Script) (sound : SoundPlan P) (ok : Allowed P Z) (lim : ℕ → ℕ → Limit) (S : State) (m : Meaning) (i : Inv P Z lim S m) where
-
   pub core-below : (k : ℕ) → k < Z .size → coreAt P Z k < P .cores
   core-below k l = sound .placed (Z .row k .task) (ok .known k l)
 
   -- the port of a core that joins is not in
   pub may-join : (c : ℕ) → ((k : ℕ) → S .has c ≡ Some k → phase (S .cell k) ≡ 3) → (m .waits c ≡ false) × (m .serves ≡ Some c → ⊥)
   may-join c out = (
-      elim (cases-bool (m .waits c)) [
-        inr e ↦ e
-      | inl e ↦ (let z = i .bus .of-wait c e in let w = z .2 in absurd (never (z .1) (w .known) (w .same) (omega (arith, at-some (z .0), w .stage-is)) (omega (arith, at-some (z .0), w .stage-is)) (omega (arith, at-some (z .0), w .stage-is)))) ],
-      λ e. (let z = i .bus .of-serve c e in let w = z .2 in never (z .1) (w .known) (w .same) (omega (arith, at-some (z .0), w .stage-is)) (omega (arith, at-some (z .0), w .stage-is)) (omega (arith, at-some (z .0), w .stage-is))))
+    elim (cases-bool (m .waits c)) [
+      | inr e ↦ e
+      | inl e ↦ (let z = i .bus .of-wait c e in let w = z .2 in absurd (never (z .1) (w .known) (w .same) (omega (arith, at-some (z .0), w .stage-is)) (omega (arith, at-some (z .0), w .stage-is)) (omega (arith, at-some (z .0), w .stage-is))))
+    ],
+    λ e. (let z = i .bus .of-serve c e in let w = z .2 in never (z .1) (w .known) (w .same) (omega (arith, at-some (z .0), w .stage-is)) (omega (arith, at-some (z .0), w .stage-is)) (omega (arith, at-some (z .0), w .stage-is))),
+  )
     where
       never : (k : ℕ) → k < Z .size → coreAt P Z k ≡ c → 1 ≤ phase (S .cell k) → phase (S .cell k) ≤ 5 → (phase (S .cell k) ≡ 3 → ⊥) → ⊥
       never k l s a b ne = ne (out k (sym (ap (S .has) s) ∙ i .cores .held k l a b))
@@ -57,8 +60,9 @@ module _ (P : Plan) (Z : Script) (sound : SoundPlan P) (ok : Allowed P Z) (lim :
   pub serving-true : (o : Option ℕ) → serving S o ≡ true → (x : Turn) × (k : ℕ) × (o ≡ Some k) × (phase (S .cell k) ≡ suc (at x))
   serving-true None e = absurd (both-ways false refl e)
   serving-true (Some k) e = elim (or-cases (eqb (phase (S .cell k)) 2) (eqb (phase (S .cell k)) 5) e) [
-      inl a ↦ (A, k, refl, eqb-true (phase (S .cell k)) 2 a)
-    | inr a ↦ (R, k, refl, eqb-true (phase (S .cell k)) 5 a) ]
+    | inl a ↦ (A, k, refl, eqb-true (phase (S .cell k)) 2 a)
+    | inr a ↦ (R, k, refl, eqb-true (phase (S .cell k)) 5 a)
+  ]
 
   pub serving-from : (x : Turn) (k : ℕ) → phase (S .cell k) ≡ suc (at x) → serving S (Some k) ≡ true
   serving-from A k e = or-left (eqb (phase (S .cell k)) 2) (eqb (phase (S .cell k)) 5) (eq-eqb (phase (S .cell k)) 2 e)
@@ -67,8 +71,9 @@ module _ (P : Plan) (Z : Script) (sound : SoundPlan P) (ok : Allowed P Z) (lim :
   pub waiting-true : (o : Option ℕ) → waits-now S o ≡ true → (x : Turn) × (k : ℕ) × (o ≡ Some k) × (phase (S .cell k) ≡ at x)
   waiting-true None e = absurd (both-ways false refl e)
   waiting-true (Some k) e = elim (or-cases (eqb (phase (S .cell k)) 1) (eqb (phase (S .cell k)) 4) e) [
-      inl a ↦ (A, k, refl, eqb-true (phase (S .cell k)) 1 a)
-    | inr a ↦ (R, k, refl, eqb-true (phase (S .cell k)) 4 a) ]
+    | inl a ↦ (A, k, refl, eqb-true (phase (S .cell k)) 1 a)
+    | inr a ↦ (R, k, refl, eqb-true (phase (S .cell k)) 4 a)
+  ]
 
   pub waiting-from : (x : Turn) (k : ℕ) → phase (S .cell k) ≡ at x → waits-now S (Some k) ≡ true
   waiting-from A k e = or-left (eqb (phase (S .cell k)) 1) (eqb (phase (S .cell k)) 4) (eq-eqb (phase (S .cell k)) 1 e)
@@ -107,8 +112,9 @@ module _ (P : Plan) (Z : Script) (sound : SoundPlan P) (ok : Allowed P Z) (lim :
 
   pub nobody-waits : (p : ℕ) → ((c : ℕ) → m .waits c ≡ false) → granting P Z p S ≡ S
   nobody-waits p none = elim (cases-bool (any (P .cores) (λ c. serving S (S .has c)))) [
-      inl e ↦ cond-true (any (P .cores) (λ c. serving S (S .has c))) S _ e
-    | inr e ↦ cond-false (any (P .cores) (λ c. serving S (S .has c))) S _ e ∙ cond-false (any (P .cores) (λ c. waits-now S (S .has c))) (grant-at Z S p (S .has p)) S (waits-none none) ]
+    | inl e ↦ cond-true (any (P .cores) (λ c. serving S (S .has c))) S _ e
+    | inr e ↦ cond-false (any (P .cores) (λ c. serving S (S .has c))) S _ e ∙ cond-false (any (P .cores) (λ c. waits-now S (S .has c))) (grant-at Z S p (S .has p)) S (waits-none none)
+  ]
 
   pub in-service : (p c : ℕ) → m .serves ≡ Some c → granting P Z p S ≡ S
   in-service p c e = cond-true (any (P .cores) (λ c. serving S (S .has c))) S _ (serves-any c e)

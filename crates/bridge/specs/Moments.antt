@@ -55,7 +55,7 @@ abbrev pub finish-at : State → ℕ → Option ℕ → State
 finish-at S core None = S
 finish-at S core (Some k) =
     cond (is (S .cell k .stage) in-A && eqb (S .cell k .a-end) (S .now)) (end-a S k)
-      (cond (is (S .cell k .stage) in-R && eqb (S .cell k .end) (S .now)) (end-r S core k) S)
+    (cond (is (S .cell k .stage) in-R && eqb (S .cell k .end) (S .now)) (end-r S core k) S)
 
 -- the cores below a number
 abbrev pub finishes : ℕ → State → State
@@ -138,7 +138,7 @@ grant-at script S port (Some k) = cond (is (S .cell k .stage) (waiting A)) (gran
 abbrev pub granting : Plan → Script → ℕ → State → State
 granting plan script port S =
     cond (any (plan .cores) (λ core. serving S (S .has core))) S
-      (cond (any (plan .cores) (λ core. waits-now S (S .has core))) (grant-at script S port (S .has port)) S)
+    (cond (any (plan .cores) (λ core. waits-now S (S .has core))) (grant-at script S port (S .has port)) S)
 
 -- ---- the four steps
 

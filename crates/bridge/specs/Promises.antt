@@ -111,6 +111,6 @@ Every-job-of-every-run-ends-within-its-window {X} means =
     (plan : Plan) (limits : ℕ → ℕ → Limit) (windows : ℕ → ℕ) → SoundPlan plan → AllCovered plan limits windows
     → (script : Script) → LawfulScript plan script
     → (last : ℕ) × ((s : X) (choices : List ℕ) (n : ℕ) (t : X)
-      → means .stands s → Idle (means .meaning s) → means .meaning s .ports ≡ plan .cores → HasLimits limits (means .meaning s)
-      → last ≤ n → Course means s (run plan script choices n .events) t
-      → Complete script (run plan script choices n) × EndsWithin windows (logOf script (run plan script choices n)))
+    → means .stands s → Idle (means .meaning s) → means .meaning s .ports ≡ plan .cores → HasLimits limits (means .meaning s)
+    → last ≤ n → Course means s (run plan script choices n .events) t
+    → Complete script (run plan script choices n) × EndsWithin windows (logOf script (run plan script choices n)))
