@@ -3,10 +3,11 @@ ghost use mathlib.Core.Path.{_≡_};
 ghost use mathlib.Core.Bool.{true};
 ghost use mathlib.Core.List.{[]};
 ghost use Prim.Native.Nat.{_+_, _≤_, _<_};
-ghost use lib.ListN.{length};
+ghost use lib.ListN.{length, getD};
 ghost use Rattle.std.specs.Keys.{Total};
 ghost use Rattle.std.specs.Of.Vec.{vec-items, vec-len, vec-cap};
 ghost use Rattle.std.specs.Vec.{made};
+ghost use Rattle.std.specs.Holes.{removed};
 ghost use Rattle.roster.specs.Order.{insertBy, placeBy, rises};
 use std::alloc::AllocError;
 use std::alloc::Global;
@@ -65,5 +66,16 @@ impl<T: Ord + Drop> Roster<T> {
         let Ok(()) = self.items.insert(i, x) else {
             unreachable()
         };
+    }
+
+    // Takes out the one at a place. The others stay in order, and the room stays.
+    pub fn take(&mut self, i: usize) -> T
+        requires { ⌜ i < vec-len (now self .items) ⌝ }
+        ensures value { λ x. ⌜ x ≡ getD (vec-items (now (self .entry) .items)) i x ⌝ }
+        ensures items { λ _. ⌜ vec-items (now (self .exit) .items) ≡ removed (vec-items (now (self .entry) .items)) i ⌝ }
+        ensures len { λ _. ⌜ vec-len (now (self .exit) .items) + 1 ≡ vec-len (now (self .entry) .items) ⌝ }
+        ensures room { λ _. ⌜ vec-cap (now (self .exit) .items) ≡ vec-cap (now (self .entry) .items) ⌝ }
+    {
+        self.items.remove(i)
     }
 }
