@@ -15,7 +15,7 @@ use Rattle.argument.specs.Sums.{any}
 use Rattle.argument.specs.Plans.{Plan, SoundPlan}
 use Rattle.argument.specs.Logs.{Turn, A, R}
 use Rattle.bus.specs.Turns.{Meaning, Idle}
-use Rattle.bus.specs.Courses.{Turns}
+use Rattle.bus.specs.Courses.{RuleCourse}
 use Rattle.bridge.specs.Scripts.{Script, coreAt}
 use Rattle.bridge.specs.Stages.{Stage, unstarted, in-A, in-E, in-R, number}
 use Rattle.bridge.specs.States.{State, begun}
@@ -185,7 +185,7 @@ jump-on plan script choices n from to g u ih quiet = ap tick (still ∙ ih)
       lawful = g .lawful;
       ports = g .ports;
       idle = g .idle;
-      turns = subst (λ (T : State). Turns from (T .events) to) (sym ih) (g .turns);
+      turns = subst (λ (T : State). RuleCourse from (T .events) to) (sym ih) (g .turns);
     }
 
     still : moment plan script (getD choices (length (grantsOf (run plan script choices u .events))) 0) (run plan script choices u) ≡ run plan script choices u

@@ -3,7 +3,7 @@ use mathlib.Core.Path.{_≡_, refl}
 use mathlib.Core.List.{List, [], _∷_}
 use Prim.Native.Nat.{ℕ}
 use Rattle.bus.specs.Turns.{Meaning, Joined, Granted, Done}
-use Rattle.bus.specs.Courses.{Event, joins, grants, ends, Turns}
+use Rattle.bus.specs.Courses.{Event, joins, grants, ends, RuleCourse}
 
 abbrev pub Turned : Meaning → Event → Meaning → Type 0
 Turned m (joins a) n = Joined m a n
@@ -14,8 +14,8 @@ abbrev pub Keeps : Meaning → List Event → Meaning → Type 0
 Keeps m [] n = m ≡ n
 Keeps m (e ∷ es) n = (l : Meaning) × Keeps m es l × Turned l e n
 
-pub keeps : {m n : Meaning} {es : List Event} → Turns m es n → Keeps m es n
-keeps (Turns.start) = refl
-keeps (Turns.join {n = l} r j) = (l, keeps r, j)
-keeps (Turns.grant {n = l} r g) = (l, keeps r, g)
-keeps (Turns.done {n = l} r d) = (l, keeps r, d)
+pub keeps : {m n : Meaning} {es : List Event} → RuleCourse m es n → Keeps m es n
+keeps (RuleCourse.start) = refl
+keeps (RuleCourse.join {n = l} r j) = (l, keeps r, j)
+keeps (RuleCourse.grant {n = l} r g) = (l, keeps r, g)
+keeps (RuleCourse.done {n = l} r d) = (l, keeps r, d)

@@ -10,7 +10,7 @@ use Rattle.argument.specs.Logs.{Log, Turn, A, R, granted, ended, KeepsTheLaws, 
 use Rattle.argument.specs.Theorems.{AllCovered}
 use Rattle.bus.specs.Turns.{Meaning, Idle}
 use Rattle.bus.specs.Means.{Means}
-use Rattle.bus.specs.Courses.{Event, Course, Turns}
+use Rattle.bus.specs.Courses.{Event, Course, RuleCourse}
 use Rattle.bridge.specs.Scripts.{Script, LawfulScript}
 use Rattle.bridge.specs.Stages.{in-A, in-E, in-R, unstarted}
 use Rattle.bridge.specs.States.{State, logOf, Complete}
@@ -25,7 +25,7 @@ pub record AllowedRun (plan : Plan) (script : Script) (choices : List ℕ) (n : 
   -- it has a port for each core
   pub ports : from .ports ≡ plan .cores
   pub idle : Idle from
-  pub turns : Turns from (run plan script choices n .events) to
+  pub turns : RuleCourse from (run plan script choices n .events) to
 
 -- ---- the log
 

@@ -6,7 +6,7 @@ use native.Mathlib.Omega.{arith}
 use Rattle.argument.specs.Logs.{Job}
 use Rattle.argument.specs.Samples.{box, first-jobs}
 use Rattle.bus.specs.Courses.{Event, joins, grants, ends, Course}
-use Rattle.bus.specs.Courses.{Turns}
+use Rattle.bus.specs.Courses.{RuleCourse}
 use Rattle.bus.proofs.Courses.{keeps-rule}
 use Rattle.queue.specs.Account.{queue-means, queue-meaning}
 use Rattle.queue.proofs.Laws.{queue-laws}
@@ -115,7 +115,7 @@ box-run s t choices n idle ports late course = (ended choices n late same grows 
     same : run (box 50) all-at-0 choices 20 ≡ last
     same = same-run (box 50) all-at-0 pick choices first-come 20 taken (subst (Followed pick) (sym tells) in-turn)
 
-    rule : Turns (queue-meaning s) (run (box 50) all-at-0 choices n .events) (queue-meaning t)
+    rule : RuleCourse (queue-meaning s) (run (box 50) all-at-0 choices n .events) (queue-meaning t)
     rule = keeps-rule queue-means queue-laws s (run (box 50) all-at-0 choices n .events) t tt course .0
 
     grows : (k : ℕ) → Grows (run (box 50) all-at-0 choices 20 .cell k) (run (box 50) all-at-0 choices n .cell k)
