@@ -2,7 +2,6 @@
 mod plain;
 
 use plain::{Outcome, Plan, Row, bus_of};
-use std::time::Instant;
 
 #[repr(C)]
 #[derive(Clone, Copy, PartialEq, Eq, Debug)]
@@ -11,7 +10,23 @@ struct Found {
     ticks: u64,
 }
 
+#[repr(C)]
+struct Timespec {
+    seconds: i64,
+    nanoseconds: i64,
+}
+
+// the clock of this thread's own processor time, so that other processes on the machine count for nothing
+const THREAD_CPUTIME: i32 = 3;
+
+fn now() -> f64 {
+    let mut t = Timespec { seconds: 0, nanoseconds: 0 };
+    assert_eq!(unsafe { clock_gettime(THREAD_CPUTIME, &mut t) }, 0);
+    t.seconds as f64 + t.nanoseconds as f64 / 1e9
+}
+
 unsafe extern "C" {
+    fn clock_gettime(clock: i32, time: *mut Timespec) -> i32;
     fn settler_settle(
         cores: u8,
         bottom: u8,
@@ -30,6 +45,8 @@ struct Case {
     favours: &'static [u8],
     rows: Vec<Row>,
     times: u32,
+    // how often both are measured, by turns; the best counts
+    rounds: u32,
 }
 
 fn row(id: u16, core: u8, rank: u8, spacing: u32, deadline: u32, phases: (u32, u32, u32)) -> Row {
@@ -46,9 +63,8 @@ fn easy() -> Vec<Row> {
         .collect()
 }
 
-// Core 0 has a first task that takes all but one tick of `rest` (spacing 3 means all of them), and as many others as there
-// are; each other core has one task that brings one job as long as it can. So each jump is short, and the search goes on
-// for long below a deadline of 10,000,000.
+// Core 0 has a first task that takes all of it or nearly, and 48 more; each other core has one task that brings one job
+// as long as it can. So each jump is short, and the search goes on for long below a deadline of 10,000,000.
 fn dense(first: Row) -> Vec<Row> {
     let mut rows = vec![first];
     for i in 1..49u16 {
@@ -71,7 +87,7 @@ fn favoured() -> Vec<Row> {
 
 fn proved(case: &Case, times: u32) -> (f64, usize, Vec<Found>) {
     let mut found = vec![Found { late: 0, ticks: 0 }; case.rows.len()];
-    let began = Instant::now();
+    let began = now();
     let late = unsafe {
         settler_settle(
             16,
@@ -85,11 +101,11 @@ fn proved(case: &Case, times: u32) -> (f64, usize, Vec<Found>) {
             found.len(),
         )
     };
-    (began.elapsed().as_secs_f64(), late, found)
+    (now() - began, late, found)
 }
 
 fn plain(case: &Case, times: u32) -> (f64, usize, Vec<Found>, u64) {
-    let began = Instant::now();
+    let began = now();
     let mut plan = Plan::open();
     for row in &case.rows {
         plan.add(*row);
@@ -99,7 +115,7 @@ fn plain(case: &Case, times: u32) -> (f64, usize, Vec<Found>, u64) {
     for _ in 0..times {
         late = plan.settle(std::hint::black_box(&bus));
     }
-    let took = began.elapsed().as_secs_f64();
+    let took = now() - began;
     let found = plan
         .outcomes()
         .iter()
@@ -113,21 +129,20 @@ fn plain(case: &Case, times: u32) -> (f64, usize, Vec<Found>, u64) {
 
 fn main() {
     let cases = [
-        Case { name: "easy", favours: &[], rows: easy(), times: 2000 },
-        Case { name: "easy, two ports favoured", favours: &[3, 7], rows: easy(), times: 2000 },
-        Case { name: "two favoured ports take the bus", favours: &[0, 1], rows: favoured(), times: 1 },
-        Case { name: "core 0 full", favours: &[], rows: dense(row(1, 0, 1, 3, 3, (1, 1, 1))), times: 1 },
-        Case { name: "core 0 all but full", favours: &[], rows: dense(row(1, 0, 1, 60_000, 60_000, (1, 59_997, 1))), times: 1 },
+        Case { name: "easy", favours: &[], rows: easy(), times: 500, rounds: 20 },
+        Case { name: "easy, two ports favoured", favours: &[3, 7], rows: easy(), times: 500, rounds: 20 },
+        Case { name: "two favoured ports take the bus", favours: &[0, 1], rows: favoured(), times: 1, rounds: 2 },
+        Case { name: "core 0 full", favours: &[], rows: dense(row(1, 0, 1, 3, 3, (1, 1, 1))), times: 1, rounds: 2 },
+        Case { name: "core 0 all but full", favours: &[], rows: dense(row(1, 0, 1, 60_000, 60_000, (1, 59_997, 1))), times: 1, rounds: 2 },
     ];
     println!("| plan | late | demands reckoned | plain Rust, ms | proved, ms | ratio |");
     println!("| --- | --- | --- | --- | --- | --- |");
     let mut worst: f64 = 0.0;
     for case in &cases {
-        // the best of several, by turns, so that another process on the machine disturbs both alike
         let (mut fast, mut ours) = (f64::MAX, f64::MAX);
         let mut jumps = 0;
         let mut late = 0;
-        for _ in 0..3 {
+        for _ in 0..case.rounds {
             let p = plain(case, case.times);
             let q = proved(case, case.times);
             assert_eq!((p.1, &p.2), (q.1, &q.2), "{}: the two disagree", case.name);

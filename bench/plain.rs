@@ -1,4 +1,4 @@
-// The settler's algorithm in plain Rust, line by line: what the proved code is measured against.
+// The settler's algorithm in plain Rust, step by step: what the proved code is measured against.
 use std::cmp::Reverse;
 
 #[derive(Clone, Copy, PartialEq, Eq)]
