@@ -132,7 +132,7 @@ module _ (P : Plan) (Z : Script) (sound : SoundPlan P) (ok : Allowed P Z) (m₀ 
     abbrev port : ℕ → ℕ
     port n = getD cs (length (grantsOf (run P Z cs n .events))) 0
 
-    claim : (n : ℕ) (m : Meaning) → Keeps m₀ (run P Z cs n .events) m → (total-left Z (run P Z cs n) + n ≤ total-left Z begun) ⊎ AllOver Z (run P Z cs n)
+    pub claim : (n : ℕ) (m : Meaning) → Keeps m₀ (run P Z cs n .events) m → (total-left Z (run P Z cs n) + n ≤ total-left Z begun) ⊎ AllOver Z (run P Z cs n)
     claim zero m kp = inl (omega arith)
     claim (suc n) m kp = elim (claim n (z .0) (z .1)) [
       | inr h ↦ inr (stays-over S T (a .onward .grows) m i h)

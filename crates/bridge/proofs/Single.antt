@@ -28,7 +28,7 @@ use Rattle.bridge.proofs.Ticks.{good-run}
 
 -- ---- only a grant adds to the grants
 
-abbrev G : State → List ℕ
+abbrev pub G : State → List ℕ
 G S = grantsOf (S .events)
 
 grants-finish : (S : State) (c : ℕ) (o : Option ℕ) → G (finish-at S c o) ≡ G S
@@ -52,7 +52,7 @@ grants-acts : (P : Plan) (Z : Script) (n : ℕ) (S : State) → G (acts P Z n S)
 grants-acts P Z zero S = refl
 grants-acts P Z (suc n) S = grants-act P Z (acts P Z n S) n (acts P Z n S .has n) ∙ grants-acts P Z n S
 
-grants-grant : (Z : Script) (S : State) (p : ℕ) (o : Option ℕ) → G (grant-at Z S p o) ≡ p ∷ G S
+pub grants-grant : (Z : Script) (S : State) (p : ℕ) (o : Option ℕ) → G (grant-at Z S p o) ≡ p ∷ G S
 grants-grant Z S p None = refl
 grants-grant Z S p (Some k) = cond-both (eqb (phase (S .cell k)) 1) (grant-a Z S p k) (grant-r Z S p k) (λ T. G T ≡ p ∷ G S) (λ _. refl) (λ _. refl)
 
@@ -60,7 +60,7 @@ grants-grant Z S p (Some k) = cond-both (eqb (phase (S .cell k)) 1) (grant-a Z S
 abbrev pub Before : Plan → Script → State → State
 Before P Z S = acts P Z (P .cores) (finishes (P .cores) S)
 
-grants-before : (P : Plan) (Z : Script) (S : State) → G (Before P Z S) ≡ G S
+pub grants-before : (P : Plan) (Z : Script) (S : State) → G (Before P Z S) ≡ G S
 grants-before P Z S = grants-acts P Z (P .cores) (finishes (P .cores) S) ∙ grants-finishes (P .cores) S
 
 -- either the port does not matter, and nothing is granted, or it is granted

@@ -1,0 +1,10 @@
+pub mod Going
+pub mod Showing
+pub mod Pools
+pub mod Finishing
+pub mod Acting
+pub mod Granting
+pub mod Places
+pub mod Soon
+pub mod Extending
+pub mod Driving

@@ -1,0 +1,4 @@
+pub mod Machine
+pub mod Pool
+pub mod Shown
+pub mod Soonest
