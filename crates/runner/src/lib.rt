@@ -1,0 +1,2 @@
+// Looks a script up in a plan's rows.
+pub mod lookup;
