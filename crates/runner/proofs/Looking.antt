@@ -50,7 +50,6 @@ front-all rows (z ∷ zs) zero l = absurd (omega arith)
 front-all rows (z ∷ zs) (suc k) l = ap (λ js. jobFor rows z ∷ js) (front-all rows zs k (omega arith))
 
 module _ (rows : List Row) (script : List ScriptRow) (k : ℕ) (l : k < length script) where
-
   abbrev z : ScriptRow
   z = getD script k noScript
 
@@ -61,7 +60,6 @@ module _ (rows : List Row) (script : List ScriptRow) (k : ℕ) (l : k < length s
       omega (arith, law .known, u, t)
 
   module _ (place : ℕ) (at : placeOf (z .id) rows ≡ Some place) where
-
     pub place-below : place < length rows
     place-below = let w = place-found rows 0 (z .id) place at in omega (arith, w .1)
 
@@ -74,30 +72,31 @@ module _ (rows : List Row) (script : List ScriptRow) (k : ℕ) (l : k < length s
     pub impossible-row : (Possible (getD rows place noRow) z → ⊥) → LawfulRow (planOf 0 rows) (scriptFor rows script) k → ⊥
     impossible-row bad law =
         bad (subst (λ (x : Job). (x .release ≤ 2 ^ 40) → (1 ≤ x .a) → (x .a ≤ getD rows (x .task) noRow .a) → (1 ≤ x .e) → (x .e ≤ getD rows (x .task) noRow .e) → (1 ≤ x .r) → (x .r ≤ getD rows (x .task) noRow .r) → Possible (getD rows place noRow) z) (sym here)
-          (λ a b c d e f g. record { early = a; some-a = b; most-a = c; some-e = d; most-e = e; some-r = f; most-r = g })
-          (law .early) (law .some-a) (law .most-a) (law .some-e) (law .most-e) (law .some-r) (law .most-r))
+        (λ a b c d e f g. record { early = a; some-a = b; most-a = c; some-e = d; most-e = e; some-r = f; most-r = g })
+        (law .early) (law .some-a) (law .most-a) (law .some-e) (law .most-e) (law .some-r) (law .most-r))
 
     pub close-row : (AllApart (jobsFor rows (take k script)) place (getD rows place noRow .spacing) (z .release) → ⊥) → LawfulRow (planOf 0 rows) (scriptFor rows script) k → ⊥
     close-row bad law = bad (λ j i.
         let i′ : j < k = omega (arith, i, front-long rows script k (omega arith)) in
         let e = front-at rows script k j i′ in
         subst (λ (y : Job). Apart y place (getD rows place noRow .spacing) (z .release)) (sym e)
-          (subst (λ (x : Job). (getD (jobsFor rows script) j noJob .release ≤ x .release) → (getD (jobsFor rows script) j noJob .task ≡ x .task → getD (jobsFor rows script) j noJob .release + getD rows (x .task) noRow .spacing ≤ x .release)
-            → Apart (getD (jobsFor rows script) j noJob) place (getD rows place noRow .spacing) (z .release)) (sym here)
-            (λ a b. record { rising = a; spaced = b }) (law .rising j i′) (law .spaced j i′)))
+        (subst (λ (x : Job). (getD (jobsFor rows script) j noJob .release ≤ x .release) → (getD (jobsFor rows script) j noJob .task ≡ x .task → getD (jobsFor rows script) j noJob .release + getD rows (x .task) noRow .spacing ≤ x .release)
+        → Apart (getD (jobsFor rows script) j noJob) place (getD rows place noRow .spacing) (z .release)) (sym here)
+        (λ a b. record { rising = a; spaced = b }) (law .rising j i′) (law .spaced j i′)))
 
     pub lawful-row : Possible (getD rows place noRow) z → AllApart (jobsFor rows (take k script)) place (getD rows place noRow .spacing) (z .release) → LawfulRow (planOf 0 rows) (scriptFor rows script) k
     lawful-row p a = record {
-        known = omega (arith, ap (λ (x : Job). x .task) here, place-below);
-        early = subst (λ (x : Job). x .release ≤ 2 ^ 40) (sym here) (p .early);
-        some-a = subst (λ (x : Job). 1 ≤ x .a) (sym here) (p .some-a);
-        most-a = subst (λ (x : Job). x .a ≤ getD rows (x .task) noRow .a) (sym here) (p .most-a);
-        some-e = subst (λ (x : Job). 1 ≤ x .e) (sym here) (p .some-e);
-        most-e = subst (λ (x : Job). x .e ≤ getD rows (x .task) noRow .e) (sym here) (p .most-e);
-        some-r = subst (λ (x : Job). 1 ≤ x .r) (sym here) (p .some-r);
-        most-r = subst (λ (x : Job). x .r ≤ getD rows (x .task) noRow .r) (sym here) (p .most-r);
-        rising = λ j i. subst (λ (x : Job). getD (jobsFor rows script) j noJob .release ≤ x .release) (sym here) (before j i .rising);
-        spaced = λ j i. subst (λ (x : Job). getD (jobsFor rows script) j noJob .task ≡ x .task → getD (jobsFor rows script) j noJob .release + getD rows (x .task) noRow .spacing ≤ x .release) (sym here) (before j i .spaced) }
+      known = omega (arith, ap (λ (x : Job). x .task) here, place-below);
+      early = subst (λ (x : Job). x .release ≤ 2 ^ 40) (sym here) (p .early);
+      some-a = subst (λ (x : Job). 1 ≤ x .a) (sym here) (p .some-a);
+      most-a = subst (λ (x : Job). x .a ≤ getD rows (x .task) noRow .a) (sym here) (p .most-a);
+      some-e = subst (λ (x : Job). 1 ≤ x .e) (sym here) (p .some-e);
+      most-e = subst (λ (x : Job). x .e ≤ getD rows (x .task) noRow .e) (sym here) (p .most-e);
+      some-r = subst (λ (x : Job). 1 ≤ x .r) (sym here) (p .some-r);
+      most-r = subst (λ (x : Job). x .r ≤ getD rows (x .task) noRow .r) (sym here) (p .most-r);
+      rising = λ j i. subst (λ (x : Job). getD (jobsFor rows script) j noJob .release ≤ x .release) (sym here) (before j i .rising);
+      spaced = λ j i. subst (λ (x : Job). getD (jobsFor rows script) j noJob .task ≡ x .task → getD (jobsFor rows script) j noJob .release + getD rows (x .task) noRow .spacing ≤ x .release) (sym here) (before j i .spaced);
+    }
       where
         before : (j : ℕ) → j < k → Apart (getD (jobsFor rows script) j noJob) place (getD rows place noRow .spacing) (z .release)
         before j i = subst (λ (y : Job). Apart y place (getD rows place noRow .spacing) (z .release)) (front-at rows script k j i) (a j (omega (arith, i, front-long rows script k (omega arith))))
