@@ -21,7 +21,7 @@ use Rattle.runs.specs.Shown.{noJob}
 use Rattle.runner.specs.Lookups.{noScript, placed, taskOf, jobOn, jobFor, jobsFor, scriptFor, FirstFault, Possible, Apart, AllApart}
 
 -- what is looked up of a row before the end
-job-at : (rows : List Row) (script : List ScriptRow) (k : ℕ) → k < length script → getD (jobsFor rows script) k noJob ≡ jobFor rows (getD script k noScript)
+pub job-at : (rows : List Row) (script : List ScriptRow) (k : ℕ) → k < length script → getD (jobsFor rows script) k noJob ≡ jobFor rows (getD script k noScript)
 job-at rows [] k l = absurd (omega arith)
 job-at rows (z ∷ zs) zero l = refl
 job-at rows (z ∷ zs) (suc k) l = job-at rows zs k (omega arith)
