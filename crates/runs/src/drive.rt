@@ -42,7 +42,8 @@ pub fn drive<B: Arbiter>(
     requires room { ⌜ 1024 ≤ vec-cap (now ready .items) ⌝ }
     requires short { ⌜ Short (now jobs) ⌝ }
     requires begins { ⌜ At (B·Arbiter .means) (planOf cores (now «_rows»)) (now jobs) (now arb) (now arb) 0 (now stages) (record { ready = vec-items (now ready .items); upto = 0 }) (now log) begun ⌝ }
-    ensures { λ r. ⌜ Cases r (λ _. Ran (B·Arbiter .means) (planOf cores (now («_rows» .entry))) (scriptOf (now (jobs .entry))) (now (arb .entry)) (now (arb .exit)) (now (log .exit))) (λ _. ⊥) ⌝ }
+    ensures room { λ r. ⌜ Cases r (λ _. 1024 ≤ vec-cap (now (ready .exit) .items)) (λ _. ⊥) ⌝ }
+    ensures ran { λ r. ⌜ Cases r (λ _. Ran (B·Arbiter .means) (planOf cores (now («_rows» .entry))) (scriptOf (now (jobs .entry))) (now (arb .entry)) (now (arb .exit)) (now (log .exit))) (λ _. ⊥) ⌝ }
 {
     let mut time = 0;
     let mut upto = 0;

@@ -21,7 +21,7 @@ pub fn release_due(jobs: &[Job], time: u64, upto: usize, ready: &mut Roster<Read
     requires below { ⌜ RowsBelow (length (now jobs)) (vec-items (now ready .items)) ⌝ }
     ensures within { λ r. ⌜ r ≤ length (now (jobs .entry)) ⌝ }
     ensures kept { λ r. ⌜ vec-len (now (ready .exit) .items) ≤ r ⌝ }
-    ensures room { λ r. ⌜ length (now (jobs .entry)) ≤ vec-cap (now (ready .exit) .items) ⌝ }
+    ensures room { λ r. ⌜ vec-cap (now (ready .entry) .items) ≤ vec-cap (now (ready .exit) .items) ⌝ }
     ensures below { λ r. ⌜ RowsBelow (length (now (jobs .entry))) (vec-items (now (ready .exit) .items)) ⌝ }
     ensures pooled { λ r. ⌜ ((P : Plan) (S : State) → ((k : ℕ) → k < length (now (jobs .entry)) → Fetched P (now (jobs .entry)) k) → S .now ≡ time
         → Pooled P (scriptOf (now (jobs .entry))) (record { ready = vec-items (now (ready .entry) .items); upto = upto }) S

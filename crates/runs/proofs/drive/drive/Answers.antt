@@ -23,7 +23,7 @@ pub loop-ready-holds : need.loop-ready-holds
 loop-ready-holds g c = (
   driven-first (bus g) (planOf (c .args .cores) (c .args .-rows .now)) (c .args .jobs .now) (c .args .arb .now) (c .args .stages .now) (vec-items (c .args .ready .now .items)) (c .args .log .now) (c .pre .inside) (c .pre .below) (c .pre .begins),
   c .pre .empty,
-  omega (arith, c .pre .room, c .pre .few),
+  c .pre .room,
 )
 
 pub finish-all-requires : need.finish-all-requires
@@ -40,7 +40,7 @@ pub release-due-upto-requires : need.release-due-upto-requires
 release-due-upto-requires g c κs = record {
   within = c .loop-ready .inv .0 .at .shows .pooled .most;
   kept = c .loop-ready .inv .1;
-  room = c .loop-ready .inv .2;
+  room = omega (arith, c .loop-ready .inv .2, c .pre .few);
   below = c .loop-ready .inv .0 .below;
 }
 
@@ -77,12 +77,15 @@ next-moment-requires g c κs =
     subst (λ n. AllInside n (c .grant .last .stages)) e (c .grant .ensures .inside)
 
 pub returns-in-None : need.returns-in-None
-returns-in-None g c = driven-over (bus g) (planOf (c .args .cores) (c .args .-rows .now)) (c .args .jobs .now) (c .args .arb .now) (laws g) (c .loop-ready .time) (c .loop-ready .upto) (c .loop-ready .stages) (vec-items (c .loop-ready .ready .items)) (c .loop-ready .log) (c .loop-ready .arb) (c .loop-ready .inv .0)
-    (c .finish-all .last .stages) (c .finish-all .last .arb) (λ a. c .in-Continue-finish-all .ensures tt .goes _ _ _ _ _ a)
-    (c .release-due-upto .result) (vec-items (c .release-due-upto .last .ready .items)) (λ S n h. c .release-due-upto .ensures .pooled (planOf (c .args .cores) (c .args .-rows .now)) S (c .loop-ready .inv .0 .at .fetched) n h)
-    (c .act-all .last .stages) (vec-items (c .act-all .last .ready .items)) (c .act-all .last .log) (c .act-all .last .arb) (λ a. c .in-Continue-act-all .ensures tt .goes _ _ _ a)
-    (c .grant .last .stages) (c .grant .last .log) (c .grant .last .arb) (omega arith) (λ a. c .grant .ensures .goes _ _ _ _ a) (c .release-due-upto .ensures .all (planOf (c .args .cores) (c .args .-rows .now)) (c .loop-ready .inv .0 .at .lawful))
-    (subst (SoonOf (c .args .jobs .now) (c .release-due-upto .result) (c .grant .last .log) (c .grant .last .stages) (length (c .grant .last .stages))) (sym (c .next-moment .ensures) ∙ c .in-None .is) (soon-of (c .args .jobs .now) (c .release-due-upto .result) (c .grant .last .log) (c .grant .last .stages) (length (c .grant .last .stages))))
+returns-in-None g c = record {
+  room = omega (arith, c .loop-ready .inv .2, c .release-due-upto .ensures .room, c .in-Continue-act-all .ensures tt .room);
+  ran = driven-over (bus g) (planOf (c .args .cores) (c .args .-rows .now)) (c .args .jobs .now) (c .args .arb .now) (laws g) (c .loop-ready .time) (c .loop-ready .upto) (c .loop-ready .stages) (vec-items (c .loop-ready .ready .items)) (c .loop-ready .log) (c .loop-ready .arb) (c .loop-ready .inv .0)
+      (c .finish-all .last .stages) (c .finish-all .last .arb) (λ a. c .in-Continue-finish-all .ensures tt .goes _ _ _ _ _ a)
+      (c .release-due-upto .result) (vec-items (c .release-due-upto .last .ready .items)) (λ S n h. c .release-due-upto .ensures .pooled (planOf (c .args .cores) (c .args .-rows .now)) S (c .loop-ready .inv .0 .at .fetched) n h)
+      (c .act-all .last .stages) (vec-items (c .act-all .last .ready .items)) (c .act-all .last .log) (c .act-all .last .arb) (λ a. c .in-Continue-act-all .ensures tt .goes _ _ _ a)
+      (c .grant .last .stages) (c .grant .last .log) (c .grant .last .arb) (omega arith) (λ a. c .grant .ensures .goes _ _ _ _ a) (c .release-due-upto .ensures .all (planOf (c .args .cores) (c .args .-rows .now)) (c .loop-ready .inv .0 .at .lawful))
+      (subst (SoonOf (c .args .jobs .now) (c .release-due-upto .result) (c .grant .last .log) (c .grant .last .stages) (length (c .grant .last .stages))) (sym (c .next-moment .ensures) ∙ c .in-None .is) (soon-of (c .args .jobs .now) (c .release-due-upto .result) (c .grant .last .log) (c .grant .last .stages) (length (c .grant .last .stages))));
+}
 
 more : (g : Over) (c : need.In-Some g) → Driven (bus g) (planOf (c .args .cores) (c .args .-rows .now)) (c .args .jobs .now) (c .args .arb .now) (c .in-Some .t) (c .release-due-upto .result) (c .grant .last .stages) (vec-items (c .act-all .last .ready .items)) (c .grant .last .log) (c .grant .last .arb)
 more g c = driven-more (bus g) (planOf (c .args .cores) (c .args .-rows .now)) (c .args .jobs .now) (c .args .arb .now) (laws g) (c .loop-ready .time) (c .loop-ready .upto) (c .loop-ready .stages) (vec-items (c .loop-ready .ready .items)) (c .loop-ready .log) (c .loop-ready .arb) (c .loop-ready .inv .0)
@@ -97,7 +100,7 @@ pub loop-ready-again : need.loop-ready-again
 loop-ready-again g c = (
   more g c,
   omega (arith, c .release-due-upto .ensures .kept, c .in-Continue-act-all .ensures tt .len),
-  omega (arith, c .release-due-upto .ensures .room, c .in-Continue-act-all .ensures tt .room),
+  omega (arith, c .loop-ready .inv .2, c .release-due-upto .ensures .room, c .in-Continue-act-all .ensures tt .room),
 )
 
 pub loop-ready-less : need.loop-ready-less

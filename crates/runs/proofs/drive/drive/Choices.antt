@@ -10,7 +10,7 @@ abbrev pub Inv-loop-ready : given.InvT-loop-ready
 Inv-loop-ready g l =
     Driven (g .B·Arbiter .means) (planOf (l .cores) (l .-rows)) (l .jobs) (l .entry .arb) (l .time) (l .upto) (l .stages) (vec-items (l .ready .items)) (l .log) (l .arb)
     × (vec-len (l .ready .items) ≤ l .upto)
-    × (length (l .jobs) ≤ vec-cap (l .ready .items))
+    × (1024 ≤ vec-cap (l .ready .items))
 
 abbrev pub μ-loop-ready : given.MeasureT-loop-ready
 μ-loop-ready g l = most - l .time

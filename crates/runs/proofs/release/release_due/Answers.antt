@@ -19,7 +19,7 @@ returns-then-job-time c = record {
 }
 
 pub insert-requires : need.insert-requires
-insert-requires c κs = omega (arith, c .loop-k .inv .0, c .loop-k .inv .1, c .loop-k-test .taken)
+insert-requires c κs = omega (arith, c .loop-k .inv .0, c .loop-k .inv .1, c .loop-k-test .taken, c .pre .room)
 
 pub loop-k-again : need.loop-k-again
 loop-k-again c =

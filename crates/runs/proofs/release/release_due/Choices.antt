@@ -11,7 +11,7 @@ use Rattle.runs.proofs.release.release_due.Given as given
 abbrev pub Inv-loop-k : given.InvT-loop-k
 Inv-loop-k l =
     (vec-len (l .ready .items) ≤ l .k)
-    × (length (l .jobs) ≤ vec-cap (l .ready .items))
+    × (vec-cap (l .entry .ready .items) ≤ vec-cap (l .ready .items))
     × RowsBelow (length (l .jobs)) (vec-items (l .ready .items))
     × ((P : Plan) (S : State) → ((k : ℕ) → k < length (l .jobs) → Fetched P (l .jobs) k) → S .now ≡ l .time
     → Pooled P (scriptOf (l .jobs)) (record { ready = vec-items (l .entry .ready .items); upto = l .upto }) S
