@@ -49,7 +49,6 @@ impl<T: Ord + Drop> Roster<T> {
     // Takes all of them out, and keeps the room.
     pub fn clear(&mut self)
         ensures items { λ _. ⌜ vec-items (now (self .exit) .items) ≡ [] ⌝ }
-        ensures len { λ _. ⌜ vec-len (now (self .exit) .items) ≡ 0 ⌝ }
         ensures room { λ _. ⌜ vec-cap (now (self .exit) .items) ≡ vec-cap (now (self .entry) .items) ⌝ }
     {
         self.items.clear();

@@ -66,7 +66,7 @@ drive-requires g c κs =
       rows = ap length front ∙ m ∙ sym (jobs-long rows script) ∙ sym (ap length is);
       inside = all-inside (length (c .as-slice-2 .result .now)) (take (c .from .result) (c .idle-stages-stages .result)) idle;
       below = empty-below (length (c .as-slice-2 .result .now)) (vec-items (c .clear .last .self .items)) (c .clear .ensures .items);
-      empty = omega (arith, c .clear .ensures .len);
+      empty = omega (arith, ap length (c .clear .ensures .items), c .clear .last .self .items .ok .0);
       room = search needs;
       short = subst Short (sym is) (short rows script cores (c .pre .sound) law);
       begins = subst (λ (js : List Job). At (bus g) (planOf cores rows) js (c .args .arb .now) (c .args .arb .now) 0 (take (c .from .result) (c .idle-stages-stages .result)) (record { ready = vec-items (c .clear .last .self .items); upto = 0 }) (take (length script) (c .open .last .log ++ drop (length script) (c .args .log .now))) begun) (sym is)
