@@ -1,1 +1,2 @@
+mod Standing
 mod Told

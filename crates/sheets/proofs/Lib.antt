@@ -4,4 +4,4 @@ mod Gathering
 pub mod Loaded
 mod InBytes
 mod SavedAgain
-mod LoadedAgain
+pub mod LoadedAgain
