@@ -30,11 +30,11 @@ pub may-stand : (plan : Plan) → MayStand (spelling (content plan))
 may-stand plan =
     let few : length (vec-items (plan .rows)) ≤ 64 = omega (arith, plan .«few», plan .rows .ok .0) in
     record {
-        line = line-stands (plan .platform .line .bottom) (plan .platform .line .favours);
-        platform = rw (plan .«platform_ok») refl;
-        few = few;
-        each = plan .«tasks_ok»;
-        apart = plan .«all_apart»;
+      line = line-stands (plan .platform .line .bottom) (plan .platform .line .favours);
+      platform = rw (plan .«platform_ok») refl;
+      few = few;
+      each = plan .«tasks_ok»;
+      apart = plan .«all_apart»;
     }
 
 pub loads-as-itself : (plan : Plan) → spelled (written (spelling (content plan))) ≡ Ok (spelling (content plan))
