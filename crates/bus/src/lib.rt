@@ -1,4 +1,6 @@
 // Arbiters: who has the bus next.
+#![tactic(auto)]
+
 pub mod arbiter;
 pub mod fairness;
 pub mod service;

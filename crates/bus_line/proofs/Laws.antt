@@ -6,9 +6,9 @@ use Rattle.round_robin.specs.Account.{round_means}
 use Rattle.round_robin.specs.Laws.{round_laws}
 use Rattle.favour.specs.Account.{favour_means}
 use Rattle.favour.specs.Laws.{favour_laws}
-use Rattle.either.specs.Account.{either_means}
+use Rattle.either_arbiter.specs.Account.{either_means}
 use Rattle.bus_line.specs.Lines.{base_means, bus_means}
-use Rattle.either.specs.Laws.{either_laws}
+use Rattle.either_arbiter.specs.Laws.{either_laws}
 
 base_laws : Laws base_means
 base_laws = either_laws queue_means round_means queue_laws round_laws

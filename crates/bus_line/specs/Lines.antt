@@ -17,9 +17,9 @@ use Rattle.round_robin.specs.Account.{round_means, Fresh as FreshRing}
 use Rattle.favour.specs.declared.Own.{Own}
 use Rattle.favour.specs.declared.Favour.{Favour}
 use Rattle.favour.specs.Account.{favour_means}
-use Rattle.either.specs.declared.Either.{Either}
-use Rattle.either.specs.declared.Either.TheVariants.{First, Second}
-use Rattle.either.specs.Account.{either_means}
+use Rattle.either_arbiter.specs.declared.Either.{Either}
+use Rattle.either_arbiter.specs.declared.Either.TheVariants.{First, Second}
+use Rattle.either_arbiter.specs.Account.{either_means}
 
 -- a bottom arbiter
 abbrev pub BaseValue : Type 0

@@ -1,10 +1,12 @@
 // The library's arbiters as one type, and the bus line of a plan as a value of it.
+#![tactic(auto)]
+
 ghost use Rattle.std.specs.Prelude.{◌≡◌, ◌<◌, ◌⊎◌, Ok, Err, MatchResult};
 ghost use Rattle.tasks.specs.Refusals.{told, refusal};
 ghost use Rattle.tasks.specs.Platforms.{cores_verdict, favoured};
 ghost use Rattle.bus_line.specs.Lines.{BaseMade, BusMade};
 
-use either::Either;
+use either_arbiter::Either;
 use favour::Favour;
 use queue::Queue;
 use round_robin::RoundRobin;

@@ -1,4 +1,6 @@
 // The arbiters on tables of calls with what comes out.
+#![tactic(auto)]
+
 #[cfg(test)]
 mod play;
 #[cfg(test)]

@@ -3,7 +3,7 @@ use crate::play::Step::*;
 use crate::play::{all_served, favoured, number, play, table};
 use bus::arbiter::Arbiter;
 use bus_line::{Bus, bus_of};
-use either::Either;
+use either_arbiter::Either;
 use favour::Favour;
 use makers_arbiter::Batches;
 use queue::Queue;

@@ -1,4 +1,6 @@
 // The settler's arithmetic: offered phases, shares, demand, and the search for one task's outcome.
+#![tactic(auto)]
+
 pub mod cap;
 pub mod late;
 pub mod offer;

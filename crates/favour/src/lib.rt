@@ -1,4 +1,6 @@
 // The favour: one port before all others, over any arbiter. It is an arbiter again, so favours pile up.
+#![tactic(auto)]
+
 ghost use Rattle.std.specs.Prelude.{◌≡◌, MatchResult};
 ghost use Rattle.favour.specs.Account.{favour_means};
 ghost use Rattle.favour.specs.Making.{Made, NotMade};

@@ -1,4 +1,6 @@
 // Settling for callers of another language: a plan in numbers comes in, its outcomes in numbers go out.
+#![tactic(auto)]
+
 use bus_line::bus_of;
 use settler::plan::Plan;
 use std::alloc::Global;

@@ -1,5 +1,7 @@
 // An arbiter that a maker adds, in a crate of its own. It serves in batches: those who wait when a batch is
 // opened are served from the lowest port up, and whoever joins meanwhile waits for the next batch.
+#![tactic(auto)]
+
 ghost use Rattle.std.specs.Prelude.{◌≡◌, ℕ, ◌^◌, ◌<◌, ◌≤◌, true, false, Some};
 ghost use Rattle.bus.specs.Masks.{has};
 ghost use Rattle.makers_arbiter.specs.Turnover.{in_either};

@@ -1,4 +1,6 @@
 // Edits of a plan, case by case: which refusal comes, alone and together with a later one.
+#![tactic(auto)]
+
 #[cfg(test)]
 mod tests {
     use settler::plan::Plan;

@@ -1,4 +1,6 @@
 // The queue: grants the port that joined first.
+#![tactic(auto)]
+
 ghost use Rattle.std.specs.Prelude.{◌≡◌, ℕ, ◌<◌, ◌≤◌, true, false, length, take, Some};
 ghost use Rattle.queue.specs.Lines.{among, apart};
 

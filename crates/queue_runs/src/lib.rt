@@ -1,4 +1,6 @@
 // Runs on the queue. Each function here only carries a theorem.
+#![tactic(auto)]
+
 ghost use Rattle.queue_runs.specs.Queued.{TheQueueLeavesNoChoice, AScriptHasOneRunOnTheQueue};
 ghost use Rattle.queue_runs.specs.Box.{TheLogOfTheBoxOnTheQueue};
 

@@ -1,4 +1,6 @@
 // What the program does: a sheet on standard input, the windows of its tasks on standard output.
+#![tactic(auto)]
+
 ghost use Rattle.std.specs.Prelude.{◌≤◌, length, IfOk};
 
 use bus_line::bus_of;

@@ -1,4 +1,6 @@
 // Round robin: grants the first waiting port, counted upward from the one after the last granted.
+#![tactic(auto)]
+
 ghost use Rattle.std.specs.Prelude.{◌≡◌, ℕ, ◌+◌, ◌^◌, ◌<◌, ◌≤◌, false, Some};
 ghost use Rattle.bus.specs.Masks.{has};
 

@@ -1,3 +1,5 @@
 // When an edit of a plan is accepted: judged on the plan's cores and rows and the arguments of the call.
+#![tactic(auto)]
+
 pub mod judge;
 pub mod lookup;

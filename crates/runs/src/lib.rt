@@ -1,4 +1,6 @@
 // Runs a script on any arbiter, and writes its log.
+#![tactic(auto)]
+
 pub mod act;
 pub mod drive;
 pub mod finish;

@@ -1,4 +1,6 @@
 // Settling and telling windows, case by case.
+#![tactic(auto)]
+
 #[cfg(test)]
 mod tests {
     use bus::arbiter::Arbiter;

@@ -1,4 +1,6 @@
 // The program: a sheet on standard input, the windows of its tasks on standard output.
+#![tactic(auto)]
+
 use report::report;
 use std::io;
 

@@ -2,8 +2,8 @@
 use Rattle.std.specs.Prelude.{ℕ}
 use Rattle.bus.specs.Turns.{Meaning}
 use Rattle.bus.specs.Means.{Means}
-use Rattle.either.specs.declared.Either.{Either}
-use Rattle.either.specs.declared.Either.TheVariants.{First, Second}
+use Rattle.either_arbiter.specs.declared.Either.{Either}
+use Rattle.either_arbiter.specs.declared.Either.TheVariants.{First, Second}
 
 module _ {X Y : Type 0} (first : Means X) (second : Means Y) where
   abbrev pub either_meaning : Either X Y → Meaning

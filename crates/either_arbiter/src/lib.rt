@@ -1,6 +1,8 @@
 // One of two arbiters: an arbiter again, so that arbiters of different types go into one list of calls.
-ghost use Rattle.either.specs.Account.{either_means};
-ghost use Rattle.either.specs.Laws.{either_laws};
+#![tactic(auto)]
+
+ghost use Rattle.either_arbiter.specs.Account.{either_means};
+ghost use Rattle.either_arbiter.specs.Laws.{either_laws};
 
 use bus::arbiter::Arbiter;
 use tasks::limit::Limit;

@@ -2,9 +2,9 @@
 use Rattle.std.specs.Prelude.{ℕ}
 use Rattle.bus.specs.Turns.{Sound, Joined, Granted, Done}
 use Rattle.bus.specs.Means.{Means, Laws}
-use Rattle.either.specs.declared.Either.{Either}
-use Rattle.either.specs.declared.Either.TheVariants.{First, Second}
-use Rattle.either.specs.Account.{either_means}
+use Rattle.either_arbiter.specs.declared.Either.{Either}
+use Rattle.either_arbiter.specs.declared.Either.TheVariants.{First, Second}
+use Rattle.either_arbiter.specs.Account.{either_means}
 
 module _ {X Y : Type 0} (first : Means X) (second : Means Y) (one : Laws first) (two : Laws second) where
   sound : (s : Either X Y) → (either_means first second).stands s → Sound ((either_means first second).meaning s)
