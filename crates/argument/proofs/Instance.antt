@@ -112,7 +112,7 @@ module _ (plan : Plan) (limits : ℕ → ℕ → Limit) (log : B.Log) (sound : S
   right = keeps B.right-choice (others_keep B.right-choice (λ e. omega arith))
 
   never_free : B.NeverFree plan log
-  never_free = keeps B.never-free (others_keep B.never-free (λ e. omega arith))
+  never_free = keeps B.never_free (others_keep B.never_free (λ e. omega arith))
 
   kept : B.LimitsKept plan limits log
   kept = keeps B.limits-kept (others_keep B.limits-kept (λ e. omega arith))

@@ -42,8 +42,8 @@ module _ {X : Type 0} {R : X → X → Ordering} (o : IsTotalOrder R) (x : X) wh
   none_insert z (y ∷ ys) no_lt h =
       let p = and_parts (not (is_lt (R y z))) (none_less R z ys) h in
       ⊎_elim
-      (λ (e : is_lt (o.cmp x y) ≡ true). rw e (rw no_lt h))
-      (λ (e : is_lt (o.cmp x y) ≡ false). rw e (and_from (not (is_lt (R y z))) (none_less R z (insert_by R x ys)) p.0 (none_insert z ys no_lt p.1)))
+      (λ (e : is_lt (R x y) ≡ true). rw e (rw no_lt h))
+      (λ (e : is_lt (R x y) ≡ false). rw e (and_from (not (is_lt (R y z))) (none_less R z (insert_by R x ys)) p.0 (none_insert z ys no_lt p.1)))
       (cases_Bool (is_lt (R x y)))
 
   -- what is below y is below all that is not below y
@@ -52,8 +52,8 @@ module _ {X : Type 0} {R : X → X → Ordering} (o : IsTotalOrder R) (x : X) wh
   none_below y (z ∷ zs) lt h =
       let p = and_parts (not (is_lt (R z y))) (none_less R y zs) h in
       ⊎_elim
-      (λ (e : is_lt (o.cmp z x) ≡ true). let t : R z y ≡ Less = o.trans z x y (less (R z x) e) lt in let q : not (is_lt (R z y)) ≡ false = rw t refl in cc (p.0, q))
-      (λ (e : is_lt (o.cmp z x) ≡ false). rw e (none_below y zs lt p.1))
+      (λ (e : is_lt (R z x) ≡ true). let t : R z y ≡ Less = o.trans z x y (less (R z x) e) lt in let q : not (is_lt (R z y)) ≡ false = rw t refl in cc (p.0, q))
+      (λ (e : is_lt (R z x) ≡ false). rw e (none_below y zs lt p.1))
       (cases_Bool (is_lt (R z x)))
 
   pub rises_insert : (xs : List X) → rises R xs ≡ true → rises R (insert_by R x xs) ≡ true
@@ -61,9 +61,9 @@ module _ {X : Type 0} {R : X → X → Ordering} (o : IsTotalOrder R) (x : X) wh
   rises_insert (y ∷ ys) h =
       let p = and_parts (none_less R y ys) (rises R ys) h in
       ⊎_elim
-      (λ (e : is_lt (o.cmp x y) ≡ true).
+      (λ (e : is_lt (R x y) ≡ true).
       let lt : R x y ≡ Less = less (R x y) e in
       let gt : R y x ≡ Greater = o.antisymm y x ∙ ap ordering_reverse lt in
       rw e (and_from (none_less R x (y ∷ ys)) (rises R (y ∷ ys)) (rw gt (none_below y ys lt p.0)) h))
-      (λ (e : is_lt (o.cmp x y) ≡ false). rw e (and_from (none_less R y (insert_by R x ys)) (rises R (insert_by R x ys)) (none_insert y ys e p.0) (rises_insert ys p.1)))
+      (λ (e : is_lt (R x y) ≡ false). rw e (and_from (none_less R y (insert_by R x ys)) (rises R (insert_by R x ys)) (none_insert y ys e p.0) (rises_insert ys p.1)))
       (cases_Bool (is_lt (R x y)))
