@@ -24,16 +24,27 @@ pub granted_line : (s : Queue) (after : List ℕ) → (s.len ≡ 0 → ⊥) → 
 granted_line s after n e = front s.len s.order (omega (arith, n)) (fits s) ∙ ap (λ xs. get_or s.order 0 0 ∷ take (s.len - 1) xs) (sym e)
 
 -- the standing facts of a queue's fields
-abbrev Facts : ℕ → ℕ → List ℕ → Option ℕ → Type 0
-Facts ports len order served =
-    (1 ≤ ports) × ((ports ≤ 16) × ((length (take len order) ≡ len)
-    × (((p : ℕ) → among p (take len order) ≡ true → p < ports) × ((apart (take len order) ≡ true)
-    × (((p : ℕ) → served ≡ Some p → p < ports) × (((p : ℕ) → served ≡ Some p → among p (take len order) ≡ false) × Unit {0}))))))
+pub record Facts (ports len : ℕ) (order : List ℕ) (served : Option ℕ) : Type 0 where
+  pub some : 1 ≤ ports
+  pub few : ports ≤ 16
+  pub size : length (take len order) ≡ len
+  pub below : (p : ℕ) → among p (take len order) ≡ true → p < ports
+  pub once : apart (take len order) ≡ true
+  pub port : (p : ℕ) → served ≡ Some p → p < ports
+  pub gone : (p : ℕ) → served ≡ Some p → among p (take len order) ≡ false
 
 facts : (ports len : ℕ) (order : List ℕ) (served : Option ℕ) → 1 ≤ ports → ports ≤ 16 → length (take len order) ≡ len
     → ((p : ℕ) → among p (take len order) ≡ true → p < ports) → apart (take len order) ≡ true
     → ((p : ℕ) → served ≡ Some p → p < ports) → ((p : ℕ) → served ≡ Some p → among p (take len order) ≡ false) → Facts ports len order served
-facts ports len order served some few size below once port gone = (some, (few, (size, (below, (once, (port, (gone, tt)))))))
+facts ports len order served some few size below once port gone = record {
+  some = some;
+  few = few;
+  size = size;
+  below = below;
+  once = once;
+  port = port;
+  gone = gone;
+}
 
 pub joined_facts : (s : Queue) (a end : ℕ) → end ≡ s.len → end < length s.order → a < s.ports → among a (line s) ≡ false → (s.served ≡ Some a → ⊥)
     → Facts s.ports (s.len + 1) (set s.order end a) s.served

@@ -17,7 +17,7 @@ shares-others-requires g c =
     record {
       few = omega (arith, sym (length-map c.args.offers.now listed) ∙ ap length c.requires.fetched, kept_length (row_at (rows_of tasks)) (length (rows_of tasks)), length-map tasks (λ (t : Task). t.row), c.requires.few);
       near = c.requires.near;
-      seldom = omega (arith, c.turns-of-turns.ensures, c.jobs-within-jobs.ensures.counted, at_most c.is-some.result 2);
+      seldom = omega (arith, c.turns_of-turns.ensures, c.jobs_within-jobs.ensures.counted, at_most c.is_some.result 2);
       port = omega (arith, ap (λ row. row.core) here, c.requires.ports);
     }
 
@@ -26,12 +26,12 @@ returns g c =
     let tasks = c.args.tasks.now in
     let meaning = g.B.Arbiter.means.meaning c.args.arbiter.now in
     demand_is meaning.ports (rows_of tasks) (map listed c.args.offers.now) meaning.limit c.args.place c.args.w c.index-tasks-place.result.row
-    c.from.result c.jobs-within-jobs.result.ticks c.shares-others.result c.jobs-within-jobs.result.count c.turns-of-turns.result c.is-some.result
+    c.from.result c.jobs_within-jobs.result.ticks c.shares-others.result c.jobs_within-jobs.result.count c.turns_of-turns.result c.is_some.result
     (row_at_lem tasks c.args.place c.index-tasks-place.result c.requires.known c.index-tasks-place.is)
-    (c.from.ensures ∙ c.unwrap-or.ensures ∙ c.blocker-blocker.ensures.ticks meaning.ports)
-    (c.jobs-within-jobs.ensures.ticks meaning.ports)
-    c.jobs-within-jobs.ensures.count
-    (c.is-some.ensures ∙ c.blocker-blocker.ensures.some)
-    c.turns-of-turns.ensures
+    (c.from.ensures ∙ c.unwrap_or.ensures ∙ c.blocker-blocker.ensures.ticks meaning.ports)
+    (c.jobs_within-jobs.ensures.ticks meaning.ports)
+    c.jobs_within-jobs.ensures.count
+    (c.is_some.ensures ∙ c.blocker-blocker.ensures.some)
+    c.turns_of-turns.ensures
     c.requires.fetched
     c.shares-others.ensures.value

@@ -10,10 +10,10 @@ pub loop-place-preserved : goal.loop-place-preserved
 loop-place-preserved g c =
     let meaning = g.B.Arbiter.means.meaning c.args.arbiter.now in (
       told_more (plan_of meaning.ports (rows_of c.args.tasks.now)) meaning.limit c.loop-place.place
-          (vec_items c.loop-place.outcomes) (vec_items c.push-reserved.new.self) c.outcome-of.result
-          (sym c.loop-place.outcomes.ok.0 ∙ c.loop-place.invariant.1) c.push-reserved.ensures.items c.loop-place.invariant.0 c.outcome-of.ensures,
-      omega (arith, c.push-reserved.ensures.len, c.loop-place.invariant.1),
-      c.push-reserved.ensures.capacity ∙ c.loop-place.invariant.2,
+          (vec_items c.loop-place.outcomes) (vec_items c.push_reserved.new.self) c.outcome_of.result
+          (sym c.loop-place.outcomes.ok.0 ∙ c.loop-place.invariant.1) c.push_reserved.ensures.items c.loop-place.invariant.0 c.outcome_of.ensures,
+      omega (arith, c.push_reserved.ensures.len, c.loop-place.invariant.1),
+      c.push_reserved.ensures.capacity ∙ c.loop-place.invariant.2,
     )
 
 pub returns : goal.returns

@@ -4,16 +4,16 @@ use Rattle.tasks.specs.declared.task.Task.{Task}
 use Rattle.demand.specs.Rows.{rows_of, row_at}
 use Rattle.demand.proofs.work.Work.settle.Goals as goal
 
-pub tell-all-requires : goal.tell-all-requires
-tell-all-requires g c =
+pub tell_all-requires : goal.tell_all-requires
+tell_all-requires g c =
     let rows = c.args.rows.now in
-    let tasks = c.as-slice.result.now in
-    let same : rows_of tasks ≡ rows = ap rows_of c.as-slice.ensures.value ∙ c.fetch.ensures.tasks in
+    let tasks = c.as_slice.result.now in
+    let same : rows_of tasks ≡ rows = ap rows_of c.as_slice.ensures.value ∙ c.fetch.ensures.tasks in
     let size = length-map tasks (λ (t : Task). t.row) in
     let long = ap length same in
     record {
       few = omega (arith, size, long, c.requires.few);
       placed = λ u h. rw same (c.requires.placed u (omega (arith, size, long)));
-      fetched = rw (same, c.as-slice-2.ensures) c.fetch.ensures.offers;
+      fetched = rw (same, c.as_slice-2.ensures) c.fetch.ensures.offers;
       room = c.requires.room;
     }

@@ -5,6 +5,6 @@ use Rattle.queue.proofs.calls.QueueArbiter.idle.Goals as goal
 
 pub returns-else-self-eq0 : goal.returns-else-self-eq0
 returns-else-self-eq0 c = record {
-  yes-idle = λ e. absurd (c.if-self-eq0.false (eqb-true c.args.self.now.len 0 e));
-  not-idle = λ _ _. inl (first_waits c.args.self.now c.if-self-eq0.false);
+  yes_idle = λ e. absurd (c.if-self-eq0.false (eqb-true c.args.self.now.len 0 e));
+  not_idle = λ _ _. inl (first_waits c.args.self.now c.if-self-eq0.false);
 }

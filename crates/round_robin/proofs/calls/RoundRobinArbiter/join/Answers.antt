@@ -4,28 +4,28 @@ use Rattle.bus.proofs.Served.{is_served, not_served}
 use Rattle.bus.proofs.Masks.{flag_set, flag_clear}
 use Rattle.round_robin.proofs.Steps.{flag, joined_facts}
 use Rattle.round_robin.proofs.calls.RoundRobinArbiter.join.Goals as goal
-use Rattle.round_robin.proofs.calls.RoundRobinArbiter.join.Goals.{then-is-served-via-then-is-served, then-is-served-via-else-is-served+then-self-flag-ne0}
+use Rattle.round_robin.proofs.calls.RoundRobinArbiter.join.Goals.{then-is_served-via-then-is_served, then-is_served-via-else-is_served+then-self-flag-ne0}
 
-pub returns-then-is-served : goal.returns-then-is-served
-returns-then-is-served c =
+pub returns-then-is_served : goal.returns-then-is_served
+returns-then-is_served c =
     let s = c.args.self.now in
     let l = c.if-a-self.false in record {
       unchanged = search rules;
       account = λ _. inr (
         refl,
         l,
-        elim c.then-is-served.branch [
-          | then-is-served-via-then-is-served w ↦ inr (is_served s.served c.args.a (sym c.is-served.ensures ∙ w.if-is-served.true))
-          | then-is-served-via-else-is-served+then-self-flag-ne0 w ↦ inl (flag_set s.mask c.args.a _ (flag s c.args.a l) w.if-self-flag-ne0.true)
+        elim c.then-is_served.branch [
+          | then-is_served-via-then-is_served w ↦ inr (is_served s.served c.args.a (sym c.is_served.ensures ∙ w.if-is_served.true))
+          | then-is_served-via-else-is_served+then-self-flag-ne0 w ↦ inl (flag_set s.mask c.args.a _ (flag s c.args.a l) w.if-self-flag-ne0.true)
         ],
       );
     }
 
-pub invariant-of-self : goal.invariant-of-self
-invariant-of-self c =
+pub invariant_of-self : goal.invariant_of-self
+invariant_of-self c =
     let s = c.args.self.now in
     let l = c.if-a-self.false in
-    joined_facts s c.args.a _ (flag s c.args.a l) l (not_served s.served c.args.a (sym c.if-is-served.ensures))
+    joined_facts s c.args.a _ (flag s c.args.a l) l (not_served s.served c.args.a (sym c.if-is_served.ensures))
 
 pub returns : goal.returns
 returns c =
@@ -36,7 +36,7 @@ returns c =
       account = λ _. record {
         port = l;
         free = flag_clear s.mask c.args.a _ f c.if-self-flag-ne0.false;
-        unserved = not_served s.served c.args.a (sym c.if-is-served.ensures);
+        unserved = not_served s.served c.args.a (sym c.if-is_served.ensures);
         ports = refl;
         mask = ap (bit_or s.mask) f;
         next = refl;

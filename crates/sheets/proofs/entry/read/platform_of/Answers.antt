@@ -9,5 +9,5 @@ returns c =
     let favours = take (length body - 3) (drop 3 body) in
     let room : 3 ≤ length body = search rules in
     let count : length favours ≡ get_or body 2 0 = search rules in
-    let line = c.in-ok-line.ensures in
-    platform_is body favours (favoured c.in-ok-line.line.favours) (bottom_number c.in-ok-line.line.bottom) room refl count line.0 line.1 line.2
+    let line = c.in_ok-line.ensures in
+    platform_is body favours (favoured c.in_ok-line.line.favours) (bottom_number c.in_ok-line.line.bottom) room refl count line.0 line.1 line.2

@@ -12,11 +12,11 @@ returns c =
     let found : task_record (record_at sheet p) ≡ Ok (Some placed) = search rules in
     let after : c.later.new.reader.place ≡ place_after (record_at sheet p) p = search rules in
     let on = goes_further sheet p placed found in
-    let added = c.in-ok-admit.ensures.value in
+    let added = c.in_ok-admit.ensures.value in
     record {
       value = λ rest. admitted c.args.cores (vec_items c.args.rows.now) (vec_items c.admit.new.rows) (task_record (record_at sheet p)) placed rest found added.0 added.1;
       further = λ _. (on.0, omega (arith, on.1, after));
       place = after;
       sheet = search rules;
-      room = c.in-ok-admit.ensures.room;
+      room = c.in_ok-admit.ensures.room;
     }
