@@ -54,16 +54,27 @@ pub in_none : (s : Batches) (a : ℕ) → has s.batch a ≡ false → has s.join
 in_none s a e f = or_both_false (has s.batch a) (has s.joined a) e f
 
 -- the standing facts of the fields
-abbrev Facts : ℕ → ℕ → ℕ → Option ℕ → Type 0
-Facts ports batch joined served =
-    (1 ≤ ports) × ((ports ≤ 16) × ((batch < 2 ^ ports) × ((joined < 2 ^ ports)
-    × (((p : ℕ) → has batch p ≡ true → has joined p ≡ false)
-    × (((p : ℕ) → served ≡ Some p → p < ports) × (((p : ℕ) → served ≡ Some p → in_either batch joined p ≡ false) × Unit {0}))))))
+pub record Facts (ports batch joined : ℕ) (served : Option ℕ) : Type 0 where
+  pub some : 1 ≤ ports
+  pub few : ports ≤ 16
+  pub low : batch < 2 ^ ports
+  pub fresh : joined < 2 ^ ports
+  pub apart : (p : ℕ) → has batch p ≡ true → has joined p ≡ false
+  pub port : (p : ℕ) → served ≡ Some p → p < ports
+  pub gone : (p : ℕ) → served ≡ Some p → in_either batch joined p ≡ false
 
 facts : (ports batch joined : ℕ) (served : Option ℕ) → 1 ≤ ports → ports ≤ 16 → batch < 2 ^ ports → joined < 2 ^ ports
     → ((p : ℕ) → has batch p ≡ true → has joined p ≡ false)
     → ((p : ℕ) → served ≡ Some p → p < ports) → ((p : ℕ) → served ≡ Some p → in_either batch joined p ≡ false) → Facts ports batch joined served
-facts ports batch joined served some few low fresh apart port gone = (some, (few, (low, (fresh, (apart, (port, (gone, tt)))))))
+facts ports batch joined served some few low fresh apart port gone = record {
+  some = some;
+  few = few;
+  low = low;
+  fresh = fresh;
+  apart = apart;
+  port = port;
+  gone = gone;
+}
 
 pub joined_facts : (s : Batches) (a f : ℕ) → f ≡ 2 ^ a → a < s.ports → has s.batch a ≡ false → (s.served ≡ Some a → ⊥)
     → Facts s.ports s.batch (bit_or s.joined f) s.served

@@ -22,14 +22,24 @@ pub flag : (s : RoundRobin) (a : ℕ) → a < s.ports → (1 * 2 ^ a) % 65536 �
 flag s a h = one_shl a 16 (omega (arith, s.few))
 
 -- the standing facts of a round robin's fields
-abbrev Facts : ℕ → ℕ → ℕ → Option ℕ → Type 0
-Facts ports mask next served =
-    (1 ≤ ports) × ((ports ≤ 16) × ((mask < 2 ^ ports) × ((next ≤ ports)
-    × (((p : ℕ) → served ≡ Some p → next ≡ p + 1) × (((p : ℕ) → served ≡ Some p → has mask p ≡ false) × Unit {0})))))
+pub record Facts (ports mask next : ℕ) (served : Option ℕ) : Type 0 where
+  pub some : 1 ≤ ports
+  pub few : ports ≤ 16
+  pub low : mask < 2 ^ ports
+  pub near : next ≤ ports
+  pub last : (p : ℕ) → served ≡ Some p → next ≡ p + 1
+  pub gone : (p : ℕ) → served ≡ Some p → has mask p ≡ false
 
 facts : (ports mask next : ℕ) (served : Option ℕ) → 1 ≤ ports → ports ≤ 16 → mask < 2 ^ ports → next ≤ ports
     → ((p : ℕ) → served ≡ Some p → next ≡ p + 1) → ((p : ℕ) → served ≡ Some p → has mask p ≡ false) → Facts ports mask next served
-facts ports mask next served some few low near last gone = (some, (few, (low, (near, (last, (gone, tt))))))
+facts ports mask next served some few low near last gone = record {
+  some = some;
+  few = few;
+  low = low;
+  near = near;
+  last = last;
+  gone = gone;
+}
 
 pub joined_facts : (s : RoundRobin) (a f : ℕ) → f ≡ 2 ^ a → a < s.ports → (s.served ≡ Some a → ⊥) → Facts s.ports (bit_or s.mask f) s.next s.served
 joined_facts s a f e h u =

@@ -5,7 +5,7 @@ use Rattle.runs.proofs.drive.drive.Given as goal
 
 abbrev pub invariant-loop-ready : goal.invariant-loop-ready
 invariant-loop-ready g l =
-    Driven g.B.Arbiter.means (plan_of l.cores l.-rows) l.jobs l.initial.arb l.time l.upto l.stages (vec_items l.ready.items) l.log l.arb
+    Driven g.B.Arbiter.means (plan_of l.cores l._rows) l.jobs l.initial.arb l.time l.upto l.stages (vec_items l.ready.items) l.log l.arb
     × (vec_len l.ready.items ≤ l.upto)
     × (1024 ≤ vec_capacity l.ready.items)
 

@@ -29,16 +29,16 @@ returns-in-Waiting g c =
           c.from-c.result c.from-c.ensures c.in-Waiting.turn c.in-Waiting.k c.on.new.self c.serve.new.row c.in-Waiting.is (omega (arith, c.requires.rows)) c.on.ensures c.serve.ensures;
     }
 
-pub returns-in-default-stages : goal.returns-in-default-stages
-returns-in-default-stages g c = record {
+pub returns-in_default-stages : goal.returns-in_default-stages
+returns-in_default-stages g c = record {
   inside = c.requires.inside;
   goes = λ P x pool S h. absurd (granted_must (bus g) (laws g) P c.args.jobs.now x c.args.arb.now c.args.time c.args.stages.now pool c.args.log.now S h c.in-Ok.port c.grant.new.self (c.in-Ok.ensures.account c.requires.stands)
-      c.from-c.result c.from-c.ensures c.in-default-stages.not-Waiting);
+      c.from-c.result c.from-c.ensures c.in_default-stages.not-Waiting);
 }
 
-pub returns-in-default : goal.returns-in-default
-returns-in-default g c = record {
+pub returns-in_default : goal.returns-in_default
+returns-in_default g c = record {
   inside = c.requires.inside;
-  goes = λ P x pool S h. subst (λ b. Granting (bus g) P c.args.jobs.now x b c.args.time c.args.stages.now pool c.args.log.now S) (sym c.in-default.ensures.unchanged)
-      (granted_none (bus g) (laws g) P c.args.jobs.now x c.args.arb.now c.args.time c.args.stages.now pool c.args.log.now S h c.in-default.field-0 (c.in-default.ensures.account c.requires.stands));
+  goes = λ P x pool S h. subst (λ b. Granting (bus g) P c.args.jobs.now x b c.args.time c.args.stages.now pool c.args.log.now S) (sym c.in_default.ensures.unchanged)
+      (granted_none (bus g) (laws g) P c.args.jobs.now x c.args.arb.now c.args.time c.args.stages.now pool c.args.log.now S h c.in_default.field-0 (c.in_default.ensures.account c.requires.stands));
 }

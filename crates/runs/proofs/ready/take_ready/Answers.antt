@@ -4,8 +4,8 @@ use Rattle.runs.specs.Pool.{place}
 use Rattle.runs.proofs.Places.{take_is, take_none}
 use Rattle.runs.proofs.ready.take_ready.Goals as goal
 
-pub returns-then-i-as-slice : goal.returns-then-i-as-slice
-returns-then-i-as-slice c =
+pub returns-then-i-as_slice : goal.returns-then-i-as_slice
+returns-then-i-as_slice c =
     let xs = vec_items c.args.ready.now.items in
     let i : c.place-i.result ≡ place c.args.core xs = search rules in
     let l : c.place-i.result < length xs = search rules in
@@ -14,8 +14,8 @@ returns-then-i-as-slice c =
     let r : vec_items c.take-first.new.self.items ≡ remove xs c.place-i.result = search rules in
     record { job = w.0; items = r ∙ ap (remove xs) i ∙ w.1; len = search rules; room = search rules }
 
-pub returns-else-i-as-slice : goal.returns-else-i-as-slice
-returns-else-i-as-slice c =
+pub returns-else-i-as_slice : goal.returns-else-i-as_slice
+returns-else-i-as_slice c =
     let xs = vec_items c.args.ready.now.items in
     let i : c.place-i.result ≡ place c.args.core xs = search rules in
     let l : length xs ≤ c.place-i.result = search rules in

@@ -11,7 +11,9 @@ returns-then-is_some c = record {
 }
 
 pub invariant_of-self : goal.invariant_of-self
-invariant_of-self c = granted_facts c.args.self.now _ (found c.args.self.now c.from-start.result c.rotate_right-ahead.result c.if-self-eq0.false c.from-start.ensures c.rotate_right-ahead.ensures)
+invariant_of-self c =
+    let facts = granted_facts c.args.self.now _ (found c.args.self.now c.from-start.result c.rotate_right-ahead.result c.if-self-eq0.false c.from-start.ensures c.rotate_right-ahead.ensures) in
+    record { some = facts.some; few = facts.few; low = facts.low; near = facts.near; last = facts.last; gone = facts.gone }
 
 pub returns : goal.returns
 returns c =

@@ -25,7 +25,8 @@ pub invariant_of-self : goal.invariant_of-self
 invariant_of-self c =
     let s = c.args.self.now in
     let l = c.if-a-self.false in
-    joined_facts s c.args.a _ (flag s c.args.a l) l (not_served s.served c.args.a (sym c.if-is_served.ensures))
+    let facts = joined_facts s c.args.a _ (flag s c.args.a l) l (not_served s.served c.args.a (sym c.if-is_served.ensures)) in
+    record { some = facts.some; few = facts.few; low = facts.low; near = facts.near; last = facts.last; gone = facts.gone }
 
 pub returns : goal.returns
 returns c =
