@@ -1,14 +1,14 @@
 -- The phases that tasks offer, the order in which they are kept, and those of one core. Assumes nothing.
-use Rattle.std.proofs.Common.{sym}
 use Rattle.std.specs.Prelude.{ℕ, zero, suc, ◌+◌, cond, List, [], ◌∷◌, ◌==◌}
 use Rattle.std.specs.declared.cmp.Ordering.{Ordering}
-use Rattle.std.specs.Cmp.{IsTotalOrder, nat_cmp_total, alike_right}
-use Rattle.std.specs.Cmp.Derive.{on, fields, by_place}
+use Rattle.std.specs.Cmp.{IsTotalOrder}
+use Rattle.std.specs.Ordering.{nat_cmp, ordering_then}
 use Rattle.roster.specs.Order.{insert_by}
 use Rattle.tasks.specs.declared.task.Row.{Row}
 use Rattle.argument.specs.Sums.{ceil}
 use Rattle.demand.specs.contracts.offer.OfferOrd.TheImpl.{ghosts}
-use Rattle.demand.specs.contracts.offer.Phase.{enum}
+use Rattle.demand.specs.contracts.offer.OfferOrd.TheImpl.Laws.{lawful}
+use Rattle.demand.specs.contracts.offer.PhaseOrd.TheImpl.{ghosts as phases}
 use Rattle.demand.specs.declared.offer.Offer.{Offer}
 use Rattle.demand.specs.declared.offer.Phase.{Phase}
 use Rattle.demand.specs.declared.offer.Phase.TheVariants.{A, R}
@@ -25,26 +25,21 @@ pub record Listed : Type 0 where
 abbrev pub listed : Offer → Listed
 listed offer = record { length = offer.length.0; place = offer.place; core = offer.core; phase = offer.phase; spacing = offer.spacing; deadline = offer.deadline }
 
--- an order, the other way round
-abbrev pub turned : {K : Type 0} {R : K → K → Ordering → Type 0} → IsTotalOrder R → IsTotalOrder (λ (x y : K). R y x)
-turned o = record {
-  cmp = λ x y. o.cmp y x;
-  says = λ x y r h. o.says y x r h;
-  flip = λ x y. o.antisymm y x;
-  trans = λ x y z p q. o.trans z y x q p;
-  alike = λ x y z e. sym (alike_right o y x z e);
-}
-
--- the parts of an offer that decide, the first first: length, place in the plan, phase; the rest never decides between two offers of a plan
-abbrev pub parts : Listed → ℕ × (ℕ × (Phase × (ℕ × (ℕ × ℕ))))
-parts l = (l.length, (l.place, (l.phase, (l.core, (l.spacing, l.deadline)))))
-
--- by falling length, then in plan order, then A before R
+-- by falling length, then in plan order, then A before R; the rest never decides between two offers of a plan
 abbrev pub keeping : Listed → Listed → Ordering
-keeping x y = (fields (turned nat_cmp_total) (fields nat_cmp_total (fields (by_place enum) (fields nat_cmp_total (fields nat_cmp_total nat_cmp_total))))).cmp (parts x) (parts y)
+keeping x y =
+    ordering_then (nat_cmp y.length x.length)
+    (ordering_then (nat_cmp x.place y.place)
+    (ordering_then (phases.cmp x.phase y.phase)
+    (ordering_then (nat_cmp x.core y.core)
+    (ordering_then (nat_cmp x.spacing y.spacing) (nat_cmp x.deadline y.deadline)))))
 
-abbrev pub offer_order : IsTotalOrder ghosts.cmp
-offer_order = on (λ (o : Offer). parts (listed o)) (fields (turned nat_cmp_total) (fields nat_cmp_total (fields (by_place enum) (fields nat_cmp_total (fields nat_cmp_total nat_cmp_total)))))
+-- the order of the code's offers, which is the one above of what they list, and it is total
+abbrev pub offer_cmp : Offer → Offer → Ordering
+offer_cmp = ghosts.cmp
+
+pub offer_order : IsTotalOrder offer_cmp
+offer_order = lawful.total
 
 abbrev pub length_of : Phase → Row → ℕ
 length_of A row = row.a
