@@ -13,7 +13,7 @@ use Rattle.bridge.proofs.Sums.{on_true, on_false}
 use Rattle.bridge.proofs.Cells.{phase}
 use Rattle.runs.specs.declared.rows.Job.{Job}
 use Rattle.runs.specs.declared.ready.Ready.{Ready}
-use Rattle.runs.specs.Pool.{ready_order, place, chosen, without, count, RowsBelow, Keyed, AllKeyed, Pool, Pooled}
+use Rattle.runs.specs.Pool.{place, chosen, without, count, RowsBelow, Keyed, AllKeyed, Pool, Pooled, ready_cmp}
 use Rattle.runs.specs.Shown.{script_of, no_job, Fetched, AllReleased}
 use Rattle.runs.proofs.Pools.{unchosen}
 
@@ -49,30 +49,30 @@ take_none c (x ∷ xs) l = elim (cases_Bool (eqb x.core c)) [
 
 -- ---- insertion
 
-count_insert : (j : ℕ) (x : Ready) (xs : List Ready) → count j (insert_by ready_order.cmp x xs) ≡ on (eqb x.row j) 1 + count j xs
+count_insert : (j : ℕ) (x : Ready) (xs : List Ready) → count j (insert_by ready_cmp x xs) ≡ on (eqb x.row j) 1 + count j xs
 count_insert j x [] = refl
-count_insert j x (y ∷ ys) = elim (cases_Bool (is_lt (ready_order.cmp x y))) [
+count_insert j x (y ∷ ys) = elim (cases_Bool (is_lt (ready_cmp x y))) [
   | inl u ↦ rw u refl
   | inr u ↦ rw u (let w = count_insert j x ys in omega arith)
 ]
 
-keyed_insert : (P : Plan) (Z : Script) (x : Ready) (xs : List Ready) → Keyed P Z x → AllKeyed P Z xs → AllKeyed P Z (insert_by ready_order.cmp x xs)
+keyed_insert : (P : Plan) (Z : Script) (x : Ready) (xs : List Ready) → Keyed P Z x → AllKeyed P Z xs → AllKeyed P Z (insert_by ready_cmp x xs)
 keyed_insert P Z x [] a b = (a, tt)
-keyed_insert P Z x (y ∷ ys) a b = elim (cases_Bool (is_lt (ready_order.cmp x y))) [
+keyed_insert P Z x (y ∷ ys) a b = elim (cases_Bool (is_lt (ready_cmp x y))) [
   | inl u ↦ rw u (a, b)
   | inr u ↦ rw u (b.0, keyed_insert P Z x ys a b.1)
 ]
 
-pub below_insert : (n : ℕ) (x : Ready) (xs : List Ready) → x.row < n → RowsBelow n xs → RowsBelow n (insert_by ready_order.cmp x xs)
+pub below_insert : (n : ℕ) (x : Ready) (xs : List Ready) → x.row < n → RowsBelow n xs → RowsBelow n (insert_by ready_cmp x xs)
 below_insert n x [] a b = (a, tt)
-below_insert n x (y ∷ ys) a b = elim (cases_Bool (is_lt (ready_order.cmp x y))) [
+below_insert n x (y ∷ ys) a b = elim (cases_Bool (is_lt (ready_cmp x y))) [
   | inl u ↦ rw u (a, b)
   | inr u ↦ rw u (b.0, below_insert n x ys a b.1)
 ]
 
 pub pool_insert : (P : Plan) (J : List Job) (k : ℕ) (x : Ready) (xs ys : List Ready) (S : State)
     → k < length J → x.row ≡ k → x.core ≡ (get_or J k no_job).core → x.rank ≡ (get_or J k no_job).rank → x.release ≡ (get_or J k no_job).release → Fetched P J k
-    → (get_or J k no_job).release ≤ S.now → ys ≡ insert_by ready_order.cmp x xs → (rises ready_order.cmp xs ≡ true → rises ready_order.cmp ys ≡ true)
+    → (get_or J k no_job).release ≤ S.now → ys ≡ insert_by ready_cmp x xs → (rises ready_cmp xs ≡ true → rises ready_cmp ys ≡ true)
     → Pooled P (script_of J) (record { ready = xs; upto = k }) S → Pooled P (script_of J) (record { ready = ys; upto = k + 1 }) S
 pool_insert P J k x xs ys S l r c rank rel f due e up h = record {
   most = omega arith;

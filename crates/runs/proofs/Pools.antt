@@ -1,7 +1,8 @@
 -- The ready jobs in the roster: which goes first, and what is left.
-use Rattle.std.proofs.Common.{◌≡◌, ℕ, zero, suc, ◌+◌, ◌<◌, ◌≤◌, Bool, true, false, cond, not, ◌&&◌, eqb, ltb, leb, ◌⊎◌, List, [], ◌∷◌, Some, None, Option, Less, sym, refl, ap, ◌∙◌, subst, inl, inr, arith}
+use Rattle.std.proofs.Common.{◌≡◌, ℕ, zero, suc, ◌+◌, ◌<◌, ◌≤◌, Bool, true, false, cond, not, ◌&&◌, eqb, ltb, leb, ◌⊎◌, List, [], ◌∷◌, Some, None, Option, Less, Equal, sym, refl, ap, ◌∙◌, subst, inl, inr, arith}
 use Rattle.std.proofs.lemmas.Bool.{cases_eq, cases_lt, cases_Bool, both_ways, eq-eqb, ne_eqb, eqb-true, eqb-false, and_parts, and_from, and_left, and_right, lt-ltb, le-ltb, ltb-true, not-true}
-use Rattle.std.specs.Ordering.{is_lt}
+use Rattle.std.specs.Ordering.{is_lt, nat_cmp}
+use Rattle.std.specs.Cmp.{nat_cmp_is}
 use Rattle.roster.specs.Order.{none_less, rises}
 use Rattle.tasks.specs.Rows.{bounded}
 use Rattle.tasks.specs.declared.task.Row.{Row}
@@ -17,7 +18,7 @@ use Rattle.bridge.proofs.Sums.{on_true, on_false}
 use Rattle.bridge.proofs.Cells.{phase, put_at, put_off}
 use Rattle.bridge.proofs.Steps.{Ranked, Ready, ready_parts, ready_from, FirstOf, first_of}
 use Rattle.runs.specs.declared.ready.Ready as Kept
-use Rattle.runs.specs.Pool.{ready_order, chosen, without, count, RowsBelow, Keyed, AllKeyed, Pool, Pooled}
+use Rattle.runs.specs.Pool.{chosen, without, count, RowsBelow, Keyed, AllKeyed, Pool, Pooled, ready_cmp}
 
 abbrev Item : Type 0
 Item = Kept.Ready
@@ -45,20 +46,34 @@ pool_on P Z pool S h k x a b = record {
 
 -- ---- the order
 
-not_less : (x y : Item) → is_lt (ready_order.cmp y x) ≡ false → y.core ≡ x.core → (x.rank < y.rank) ⊎ ((x.rank ≡ y.rank) × (x.release ≤ y.release))
+-- of one core the lower rank is less, and of one rank the earlier release
+lower_rank : (x y : Item) → y.core ≡ x.core → y.rank < x.rank → is_lt (ready_cmp y x) ≡ true
+lower_rank x y c l =
+    let p : nat_cmp y.core x.core ≡ Equal = sym (nat_cmp_is y.core x.core Equal c) in
+    let q : nat_cmp y.rank x.rank ≡ Less = sym (nat_cmp_is y.rank x.rank Less l) in
+    rw (p, q) refl
+
+earlier_release : (x y : Item) → y.core ≡ x.core → y.rank ≡ x.rank → y.release < x.release → is_lt (ready_cmp y x) ≡ true
+earlier_release x y c e m =
+    let p : nat_cmp y.core x.core ≡ Equal = sym (nat_cmp_is y.core x.core Equal c) in
+    let q : nat_cmp y.rank x.rank ≡ Equal = sym (nat_cmp_is y.rank x.rank Equal e) in
+    let r : nat_cmp y.release x.release ≡ Less = sym (nat_cmp_is y.release x.release Less m) in
+    rw (p, q, r) refl
+
+not_less : (x y : Item) → is_lt (ready_cmp y x) ≡ false → y.core ≡ x.core → (x.rank < y.rank) ⊎ ((x.rank ≡ y.rank) × (x.release ≤ y.release))
 not_less x y h c = elim (cases_lt y.rank x.rank) [
-  | inl l ↦ absurd (both_ways (is_lt (ready_order.cmp y x)) h (sym (ap is_lt (ready_order.says y x Less (inr (inr (c, inl (l, refl))))))))
+  | inl l ↦ absurd (both_ways (is_lt (ready_cmp y x)) h (lower_rank x y c l))
   | inr l ↦ elim (cases_eq x.rank y.rank) [
     | inr ne ↦ inl (omega arith)
     | inl e ↦ elim (cases_lt y.release x.release) [
       | inr m ↦ inr (e, m)
-      | inl m ↦ absurd (both_ways (is_lt (ready_order.cmp y x)) h (sym (ap is_lt (ready_order.says y x Less (inr (inr (c, inr (inr (sym e, inl (m, refl))))))))))
+      | inl m ↦ absurd (both_ways (is_lt (ready_cmp y x)) h (earlier_release x y c (sym e) m))
     ]
   ]
 ]
 
 module _ (P : Plan) (Z : Script) where
-  ranked_from : (x y : Item) → Keyed P Z x → Keyed P Z y → is_lt (ready_order.cmp y x) ≡ false → core_at P Z x.row ≡ core_at P Z y.row → Ranked P Z x.row y.row
+  ranked_from : (x y : Item) → Keyed P Z x → Keyed P Z y → is_lt (ready_cmp y x) ≡ false → core_at P Z x.row ≡ core_at P Z y.row → Ranked P Z x.row y.row
   ranked_from x y a b h c = elim (not_less x y h (b.core ∙ sym c ∙ sym a.core)) [
     | inl l ↦ inl (omega (arith, a.rank, b.rank))
     | inr l ↦ inr (sym a.rank ∙ l.0 ∙ b.rank, omega (arith, l.1, a.release, b.release))
@@ -71,12 +86,12 @@ module _ (P : Plan) (Z : Script) where
     | inr ne ↦ inr (omega (arith, h, on_false (eqb x.row j) 1 (ne_eqb x.row j ne)))
   ]
 
-  none_less_lem : (x : Item) (xs : List Item) → Keyed P Z x → AllKeyed P Z xs → none_less ready_order.cmp x xs ≡ true → (j : ℕ) → 1 ≤ count j xs → core_at P Z x.row ≡ core_at P Z j → Ranked P Z x.row j
+  none_less_lem : (x : Item) (xs : List Item) → Keyed P Z x → AllKeyed P Z xs → none_less ready_cmp x xs ≡ true → (j : ℕ) → 1 ≤ count j xs → core_at P Z x.row ≡ core_at P Z j → Ranked P Z x.row j
   none_less_lem x [] a b h j n c = absurd (omega arith)
   none_less_lem x (y ∷ ys) a b h j n c =
-      let p = and_parts (not (is_lt (ready_order.cmp y x))) (none_less ready_order.cmp x ys) h in
+      let p = and_parts (not (is_lt (ready_cmp y x))) (none_less ready_cmp x ys) h in
       elim (split y ys j n) [
-        | inl e ↦ subst (Ranked P Z x.row) e (ranked_from x y a b.0 (not-true (is_lt (ready_order.cmp y x)) p.0) (c ∙ ap (core_at P Z) (sym e)))
+        | inl e ↦ subst (Ranked P Z x.row) e (ranked_from x y a b.0 (not-true (is_lt (ready_cmp y x)) p.0) (c ∙ ap (core_at P Z) (sym e)))
         | inr m ↦ none_less_lem x ys a b.1 p.1 j m c
       ]
 
@@ -86,10 +101,10 @@ module _ (P : Plan) (Z : Script) where
     pub same : core_at P Z k ≡ c
     pub goes : (j : ℕ) → 1 ≤ count j xs → core_at P Z j ≡ c → Ranked P Z k j
 
-  pub best : (c : ℕ) (xs : List Item) → AllKeyed P Z xs → rises ready_order.cmp xs ≡ true → (k : ℕ) → chosen c xs ≡ Some k → Best c xs k
+  pub best : (c : ℕ) (xs : List Item) → AllKeyed P Z xs → rises ready_cmp xs ≡ true → (k : ℕ) → chosen c xs ≡ Some k → Best c xs k
   best c [] a r k e = (let z : ◌≡◌ {A = ℕ} 0 1 = cc in absurd (omega arith))
   best c (x ∷ xs) a r k e =
-      let p = and_parts (none_less ready_order.cmp x xs) (rises ready_order.cmp xs) r in
+      let p = and_parts (none_less ready_cmp x xs) (rises ready_cmp xs) r in
       elim (cases_eq x.core c) [
         | inl u ↦ (
             let v : x.row ≡ k = (let w = rw (eq-eqb x.core c u) at e in cc) in
@@ -142,22 +157,22 @@ module _ (P : Plan) (Z : Script) where
     | inr u ↦ rw u (a.0, without_keyed c xs a.1)
   ]
 
-none_without : (c : ℕ) (x : Item) (xs : List Item) → none_less ready_order.cmp x xs ≡ true → none_less ready_order.cmp x (without c xs) ≡ true
+none_without : (c : ℕ) (x : Item) (xs : List Item) → none_less ready_cmp x xs ≡ true → none_less ready_cmp x (without c xs) ≡ true
 none_without c x [] h = refl
 none_without c x (y ∷ ys) h =
-    let p = and_parts (not (is_lt (ready_order.cmp y x))) (none_less ready_order.cmp x ys) h in
+    let p = and_parts (not (is_lt (ready_cmp y x))) (none_less ready_cmp x ys) h in
     elim (cases_Bool (eqb y.core c)) [
       | inl u ↦ rw u p.1
-      | inr u ↦ rw u (and_from (not (is_lt (ready_order.cmp y x))) (none_less ready_order.cmp x (without c ys)) p.0 (none_without c x ys p.1))
+      | inr u ↦ rw u (and_from (not (is_lt (ready_cmp y x))) (none_less ready_cmp x (without c ys)) p.0 (none_without c x ys p.1))
     ]
 
-pub without_rises : (c : ℕ) (xs : List Item) → rises ready_order.cmp xs ≡ true → rises ready_order.cmp (without c xs) ≡ true
+pub without_rises : (c : ℕ) (xs : List Item) → rises ready_cmp xs ≡ true → rises ready_cmp (without c xs) ≡ true
 without_rises c [] h = refl
 without_rises c (x ∷ xs) h =
-    let p = and_parts (none_less ready_order.cmp x xs) (rises ready_order.cmp xs) h in
+    let p = and_parts (none_less ready_cmp x xs) (rises ready_cmp xs) h in
     elim (cases_Bool (eqb x.core c)) [
       | inl u ↦ rw u p.1
-      | inr u ↦ rw u (and_from (none_less ready_order.cmp x (without c xs)) (rises ready_order.cmp (without c xs)) (none_without c x xs p.0) (without_rises c xs p.1))
+      | inr u ↦ rw u (and_from (none_less ready_cmp x (without c xs)) (rises ready_cmp (without c xs)) (none_without c x xs p.0) (without_rises c xs p.1))
     ]
 
 pub without_below : (n c : ℕ) (xs : List Item) → RowsBelow n xs → RowsBelow n (without c xs)

@@ -1,7 +1,7 @@
 -- The ready jobs as the program keeps them. Assumes nothing.
 use Rattle.std.specs.Prelude.{◌≡◌, ℕ, suc, ◌+◌, ◌<◌, ◌≤◌, Bool, true, cond, ◌&&◌, List, [], ◌∷◌, Some, None, Option, ◌==◌, nat_lt}
-use Rattle.std.specs.Cmp.{IsTotalOrder, nat_cmp_total}
-use Rattle.std.specs.Cmp.Derive as Derived
+use Rattle.std.specs.declared.cmp.Ordering.{Ordering}
+use Rattle.std.specs.Cmp.{IsTotalOrder}
 use Rattle.roster.specs.Order.{rises}
 use Rattle.argument.specs.Sums.{on}
 use Rattle.argument.specs.Plans.{Plan}
@@ -9,11 +9,15 @@ use Rattle.bridge.specs.Scripts.{Script, task_at, core_at}
 use Rattle.bridge.specs.Stages.{unstarted, is}
 use Rattle.bridge.specs.States.{State}
 use Rattle.runs.specs.contracts.ready.ReadyOrd.TheImpl.{ghosts}
+use Rattle.runs.specs.contracts.ready.ReadyOrd.TheImpl.Laws.{lawful}
 use Rattle.runs.specs.declared.ready.Ready.{Ready}
 
 -- the order in which they are kept: by core, then rank, then release, then row
-abbrev pub ready_order : IsTotalOrder ghosts.cmp
-ready_order = Derived.on (λ (x : Ready). (x.core, (x.rank, (x.release, x.row)))) (Derived.fields nat_cmp_total (Derived.fields nat_cmp_total (Derived.fields nat_cmp_total nat_cmp_total)))
+abbrev pub ready_cmp : Ready → Ready → Ordering
+ready_cmp = ghosts.cmp
+
+pub ready_order : IsTotalOrder ready_cmp
+ready_order = lawful.total
 
 -- the place of the first of a core
 abbrev pub place : ℕ → List Ready → ℕ
@@ -65,4 +69,4 @@ pub record Pooled (plan : Plan) (script : Script) (pool : Pool) (S : State) : Ty
   -- each released job that is not started is kept, once, and no other
   pub held : (k : ℕ) → count k pool.ready ≡ on (nat_lt k pool.upto && is (S.cell k).stage unstarted) 1
   pub keyed : AllKeyed plan script pool.ready
-  pub rising : rises ready_order.cmp pool.ready ≡ true
+  pub rising : rises ready_cmp pool.ready ≡ true

@@ -1,5 +1,5 @@
 use Rattle.std.proofs.Common.{◌≡◌, ℕ, ◌<◌, ◌≤◌, length, vec_items, sym, refl, ap, ◌∙◌, subst, arith}
-use Rattle.runs.specs.Pool.{ready_order, RowsBelow, Pooled}
+use Rattle.runs.specs.Pool.{RowsBelow, Pooled, ready_order}
 use Rattle.runs.specs.Shown.{script_of}
 use Rattle.runs.proofs.Places.{pool_insert, below_insert, released_from}
 use Rattle.runs.proofs.release.release_due.Goals as goal
