@@ -8,8 +8,8 @@ loop-rest-init c =
     let fits : c.args.n < 2 ^ 64 = omega arith in
     (refl, omega arith, length-decimal-le 20 c.args.n (omega arith) (omega arith) fits, fits, append-nil (decimal c.args.n))
 
-pub overflow-sub-at : goal.overflow-sub-at
-overflow-sub-at c = let i = c.loop-rest.invariant in omega (arith, decimal_nonempty c.loop-rest.rest i.3)
+pub overflow_sub-at : goal.overflow_sub-at
+overflow_sub-at c = let i = c.loop-rest.invariant in omega (arith, decimal_nonempty c.loop-rest.rest i.3)
 
 pub loop-rest-preserved : goal.loop-rest-preserved
 loop-rest-preserved c =
@@ -19,8 +19,8 @@ loop-rest-preserved c =
     let some : 1 ≤ c.loop-rest.at = omega (arith, decimal_nonempty n i.3) in
     (search rules, omega arith, omega arith, omega arith, turn c.loop-rest.bytes c.loop-rest.at n _ c.loop-rest-test.true i.3 some (omega arith) i.4)
 
-pub overflow-sub-at-2 : goal.overflow-sub-at-2
-overflow-sub-at-2 c = let i = c.loop-rest.invariant in omega (arith, decimal_nonempty c.loop-rest.rest i.3)
+pub overflow_sub-at-2 : goal.overflow_sub-at-2
+overflow_sub-at-2 c = let i = c.loop-rest.invariant in omega (arith, decimal_nonempty c.loop-rest.rest i.3)
 
 pub returns : goal.returns
 returns c =

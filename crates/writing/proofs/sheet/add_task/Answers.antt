@@ -13,10 +13,10 @@ returns c =
       items =
           let last = in_four row.r in let fourth = in_four row.e ++ last in let third = in_four row.a ++ fourth in let second = in_four row.deadline ++ third in
           earlier text head (in_four row.spacing ++ second) first
-          (earlier (vec_items c.add.new.text) (in_four row.spacing) second c.add-four.ensures.items
-          (earlier (vec_items c.add-four.new.text) (in_four row.deadline) third c.add-four-2.ensures.items
-          (earlier (vec_items c.add-four-2.new.text) (in_four row.a) fourth c.add-four-3.ensures.items
-          (earlier (vec_items c.add-four-3.new.text) (in_four row.e) last c.add-four-4.ensures.items c.add-four-5.ensures.items))));
+          (earlier (vec_items c.add.new.text) (in_four row.spacing) second c.add_four.ensures.items
+          (earlier (vec_items c.add_four.new.text) (in_four row.deadline) third c.add_four-2.ensures.items
+          (earlier (vec_items c.add_four-2.new.text) (in_four row.a) fourth c.add_four-3.ensures.items
+          (earlier (vec_items c.add_four-3.new.text) (in_four row.e) last c.add_four-4.ensures.items c.add_four-5.ensures.items))));
       len = search rules;
       room = search rules;
     }
