@@ -10,12 +10,22 @@ remove-requires c =
     let found = place_found (vec_items c.args.self.now.rows) 0 c.args.id c.in-Some.i at in
     omega (arith, found.1, c.args.self.now.rows.ok.0)
 
-pub invariant-of-self : goal.invariant-of-self
-invariant-of-self c =
+pub invariant_of-self : goal.invariant_of-self
+invariant_of-self c =
     let cores = c.args.self.now.platform.cores in
     let before = vec_items c.args.self.now.rows in
     let after = vec_items c.remove.new.self in
     let one : length after + 1 ≡ length before = omega (arith, c.remove.ensures.len, c.args.self.now.rows.ok.0, c.remove.new.self.ok.0) in
     let each : EachATask cores after = removed_each before after c.in-Some.i c.remove.ensures.by_index.0 c.remove.ensures.by_index.1 one cores c.args.self.now.tasks_ok in
     let all : AllApart after = removed_apart before after c.in-Some.i c.remove.ensures.by_index.0 c.remove.ensures.by_index.1 one c.args.self.now.all_apart in
-    (search rules, (search rules, (each, (all, search rules))))
+    record {
+      platform_ok = search rules;
+      few = search rules;
+      tasks_ok = each;
+      all_apart = all;
+      told_all = search rules;
+      row_room = search rules;
+      outcome_room = search rules;
+      spare_room = search rules;
+      text_room = search rules;
+    }
