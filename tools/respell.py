@@ -30,6 +30,10 @@ SPECIAL = {
     "task-bytes": "task_bytes_lem",
     "task-held": "task_held_lem",
 }
+# constructors that share a line, and names of lets
+MORE = (
+    "J-level b-in in-t new-alone no-offer where-at allowed-run new-kept zero-length headed-by true-more "
+    "possible-moments spaced-releases one-at-a-time no-idling right-choice never-free limits-kept").split()
 # lemmas that port.py gave a name that a definition takes
 IN_FILE = {
     "crates/queue_runs/proofs/Lines.antt": {"line_after": "line_after_lem"},
@@ -49,7 +53,7 @@ def wants_change(name):
 def respelled(name):
     if name in SPECIAL:
         return SPECIAL[name]
-    if name[0].isupper():
+    if name[0].isupper() and len(name.split("-")[0]) > 1 or name.startswith("A-"):
         return "".join(p[:1].upper() + p[1:] for p in name.split("-"))
     name = name.replace("-", "_")
     return re.sub(r"(?<=[a-z0-9])([A-Z])", lambda m: "_" + m[1].lower(), name)
@@ -92,8 +96,8 @@ def replace(text, names, fields):
             return word
         if m.start() > 0 and text_ref[0][m.start() - 1] == "." and word not in fields:
             before = text_ref[0][:m.start()]
-            # a path of a module names it, a field of a value does not
-            if not re.search(r"\b(?:specs|proofs)(?:\.[A-Za-z_0-9+'-]+)*\.$", before):
+            # a path of a module names it (B is one, by another name), a field of a value does not
+            if not re.search(r"\b(?:B|(?:specs|proofs)(?:\.[A-Za-z_0-9+'-]+)*)\.$", before):
                 return word
         return new
     text_ref = [text]
@@ -102,7 +106,7 @@ def replace(text, names, fields):
 
 def main():
     own, library, fields = scan()
-    names = {n: respelled(n) for n in own if n not in library}
+    names = {n: respelled(n) for n in [*own, *MORE] if n not in library}
     clashes = collections.defaultdict(set)
     for old, new in names.items():
         clashes[new].add(old)

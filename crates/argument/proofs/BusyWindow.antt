@@ -154,7 +154,7 @@ pub record Occupies (plan : Plan) (log : Log) (i : Task) (t0 x t j : ℕ) : Type
       ⊎ ((i.rank < (task_of plan (log.job j)).rank) × (j ≡ x))
 
 module _ (plan : Plan) (group : ℕ → ℕ → Bool) (limits : ℕ → ℕ → Limit) (log : Log) (law : Lawful group limits plan log) (i : Task)
-    (J : ℕ) (J-level : Level plan log i J) (t0 : ℕ) (B : Begins plan log i (log.job J).ready t0) where
+    (J : ℕ) (J_level : Level plan log i J) (t0 : ℕ) (B : Begins plan log i (log.job J).ready t0) where
   -- step 2: up to the end of J, some job at the level is ready and has not ended; what ends later than it is no lower job that has started
   pub record Pending (t q : ℕ) : Type 0 where
     pub at_level : Level plan log i q
@@ -164,7 +164,7 @@ module _ (plan : Plan) (group : ℕ → ℕ → Bool) (limits : ℕ → ℕ → 
   pending : (t : ℕ) → t0 ≤ t → t < (log.job J).end → (q : ℕ) × Pending t q
   pending t l m =
       elim (cases_lt t (log.job J).ready) [
-        | inr r ↦ (J, record { at_level = J-level; ready = r; going = m })
+        | inr r ↦ (J, record { at_level = J_level; ready = r; going = m })
         | inl b ↦
             let x = B.left (suc t) (omega arith) (omega arith) in
             (x.0, record { at_level = x.1.at_level; ready = omega (arith, x.1.before); going = omega (arith, x.1.after) })
@@ -175,7 +175,7 @@ module _ (plan : Plan) (group : ℕ → ℕ → Bool) (limits : ℕ → ℕ → 
       → (q : ℕ) × Level plan log i q × ((log.job q).start ≤ t) × (t < (log.job q).end)
   beside j t v l m e f =
       elim (cases_lt (log.job j).start (log.job J).ready) [
-        | inr r ↦ (J, J-level, started J J-level r, f)
+        | inr r ↦ (J, J_level, started J J_level r, f)
         | inl b ↦
             let x = B.left (suc (log.job j).start) (omega arith) (omega arith) in (
               x.0,
@@ -247,7 +247,7 @@ module _ (plan : Plan) (group : ℕ → ℕ → Bool) (limits : ℕ → ℕ → 
       → (q : ℕ) × Level plan log i q × (t0 ≤ (log.job q).ready) × ((log.job q).ready < t0 + w) × (t0 + w < (log.job q).end)
   left_over w some late =
       elim (cases_lt (log.job J).ready (t0 + w)) [
-        | inl b ↦ (J, J-level, B.before, b, omega (arith, B.before))
+        | inl b ↦ (J, J_level, B.before, b, omega (arith, B.before))
         | inr r ↦
             let x = B.left (t0 + w) (omega arith) r in
             (x.0, x.1.at_level, in_window x.0 x.1, x.1.before, omega (arith, x.1.after))

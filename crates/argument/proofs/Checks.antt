@@ -9,7 +9,7 @@ use Rattle.tasks.specs.Refusals.{Told}
 use Rattle.argument.specs.Sums.{any}
 use Rattle.argument.specs.Plans.{Plan, SoundPlan}
 use Rattle.argument.specs.Demand.{demand, WindowFor}
-use Rattle.argument.specs.Logs.{Job, Log, Turn, A, R, joined, granted, ended, row_of, core_of, met, Possible, OnCore, Before, Carried, NeverFree, LimitsKept, Law, possible-moments, spaced-releases, one-at-a-time, no-idling, right-choice, never_free, limits-kept, Keeps, KeepsTheLaws, KeepsAllBut}
+use Rattle.argument.specs.Logs.{Job, Log, Turn, A, R, joined, granted, ended, row_of, core_of, met, Possible, OnCore, Before, Carried, NeverFree, LimitsKept, Law, possible_moments, spaced_releases, one_at_a_time, no_idling, right_choice, never_free, limits_kept, Keeps, KeepsTheLaws, KeepsAllBut}
 use Rattle.argument.specs.Theorems.{AllCovered}
 use Rattle.argument.proofs.Sums.{last}
 use Rattle.argument.proofs.Exchange.{any_true}
@@ -184,13 +184,13 @@ kept_is plan limits log turn k e core l ne =
     (λ q. ne (eqb-true core (core_of plan (log.job k)) q)))
 
 abbrev test : Plan → (ℕ → ℕ → Limit) → Log → Law → Bool
-test plan limits log possible-moments = all log.size (λ k. possible plan (log.job k))
-test plan limits log spaced-releases = all log.size (λ j. all log.size (spaced plan log j))
-test plan limits log one-at-a-time = all log.size (λ j. all log.size (alone plan log j))
-test plan limits log no-idling = all log.size (idles_not plan log)
-test plan limits log right-choice = all log.size (λ j. all log.size (rightly plan log j))
+test plan limits log possible_moments = all log.size (λ k. possible plan (log.job k))
+test plan limits log spaced_releases = all log.size (λ j. all log.size (spaced plan log j))
+test plan limits log one_at_a_time = all log.size (λ j. all log.size (alone plan log j))
+test plan limits log no_idling = all log.size (idles_not plan log)
+test plan limits log right_choice = all log.size (λ j. all log.size (rightly plan log j))
 test plan limits log never_free = all log.size (busy plan log A) && all log.size (busy plan log R)
-test plan limits log limits-kept = all log.size (kept plan limits log A) && all log.size (kept plan limits log R)
+test plan limits log limits_kept = all log.size (kept plan limits log A) && all log.size (kept plan limits log R)
 
 never_free_is : (plan : Plan) (limits : ℕ → ℕ → Limit) (log : Log) → test plan limits log never_free ≡ true → NeverFree plan log
 never_free_is plan limits log e A k l t a b =
@@ -198,39 +198,39 @@ never_free_is plan limits log e A k l t a b =
 never_free_is plan limits log e R k l t a b =
     busy_is plan log R k (all_true log.size (busy plan log R) (and_parts (all log.size (busy plan log A)) (all log.size (busy plan log R)) e).1 k l) t (omega arith) b
 
-limits_kept_is : (plan : Plan) (limits : ℕ → ℕ → Limit) (log : Log) → test plan limits log limits-kept ≡ true → LimitsKept plan limits log
+limits_kept_is : (plan : Plan) (limits : ℕ → ℕ → Limit) (log : Log) → test plan limits log limits_kept ≡ true → LimitsKept plan limits log
 limits_kept_is plan limits log e A k l = kept_is plan limits log A k (all_true log.size (kept plan limits log A) (and_parts (all log.size (kept plan limits log A)) (all log.size (kept plan limits log R)) e).0 k l)
 limits_kept_is plan limits log e R k l = kept_is plan limits log R k (all_true log.size (kept plan limits log R) (and_parts (all log.size (kept plan limits log A)) (all log.size (kept plan limits log R)) e).1 k l)
 
 passed : (plan : Plan) (limits : ℕ → ℕ → Limit) (log : Log) (law : Law) → test plan limits log law ≡ true → Keeps plan limits log law
-passed plan limits log possible-moments e = λ k l. possible_is plan (log.job k) (all_true log.size (λ k. possible plan (log.job k)) e k l)
-passed plan limits log spaced-releases e = λ j k a b ne same. pair_is j k (log.job j).task (log.job k).task
+passed plan limits log possible_moments e = λ k l. possible_is plan (log.job k) (all_true log.size (λ k. possible plan (log.job k)) e k l)
+passed plan limits log spaced_releases e = λ j k a b ne same. pair_is j k (log.job j).task (log.job k).task
     ((log.job j).release + (row_of plan (log.job j)).spacing) (log.job k).release ((log.job k).release + (row_of plan (log.job j)).spacing) (log.job j).release
     (pairs_true log.size (spaced plan log) e j k a b) ne same
-passed plan limits log one-at-a-time e = λ j k a b ne same. pair_is j k (core_of plan (log.job j)) (core_of plan (log.job k))
+passed plan limits log one_at_a_time e = λ j k a b ne same. pair_is j k (core_of plan (log.job j)) (core_of plan (log.job k))
     (log.job j).end (log.job k).start (log.job k).end (log.job j).start (pairs_true log.size (alone plan log) e j k a b) ne same
-passed plan limits log no-idling e = λ k l. idles_not_is plan log k (all_true log.size (idles_not plan log) e k l)
-passed plan limits log right-choice e = λ j k a b. rightly_is plan log j k (pairs_true log.size (rightly plan log) e j k a b)
+passed plan limits log no_idling e = λ k l. idles_not_is plan log k (all_true log.size (idles_not plan log) e k l)
+passed plan limits log right_choice e = λ j k a b. rightly_is plan log j k (pairs_true log.size (rightly plan log) e j k a b)
 passed plan limits log never_free e = never_free_is plan limits log e
-passed plan limits log limits-kept e = limits_kept_is plan limits log e
+passed plan limits log limits_kept e = limits_kept_is plan limits log e
 
 -- ---- all of them, and all but one
 
 abbrev every_law : (Law → Bool) → Bool
-every_law f = f possible-moments && (f spaced-releases && (f one-at-a-time && (f no-idling && (f right-choice && (f never_free && f limits-kept)))))
+every_law f = f possible_moments && (f spaced_releases && (f one_at_a_time && (f no_idling && (f right_choice && (f never_free && f limits_kept)))))
 
 seven : (a b c d e f g : Bool) → (a && (b && (c && (d && (e && (f && g)))))) ≡ true
     → (a ≡ true) × (b ≡ true) × (c ≡ true) × (d ≡ true) × (e ≡ true) × (f ≡ true) × (g ≡ true)
 seven a b c d e f g h = grind arith
 
 every_law_true : (f : Law → Bool) → every_law f ≡ true → (law : Law) → f law ≡ true
-every_law_true f e possible-moments = (seven (f possible-moments) (f spaced-releases) (f one-at-a-time) (f no-idling) (f right-choice) (f never_free) (f limits-kept) e).0
-every_law_true f e spaced-releases = (seven (f possible-moments) (f spaced-releases) (f one-at-a-time) (f no-idling) (f right-choice) (f never_free) (f limits-kept) e).1
-every_law_true f e one-at-a-time = (seven (f possible-moments) (f spaced-releases) (f one-at-a-time) (f no-idling) (f right-choice) (f never_free) (f limits-kept) e).2
-every_law_true f e no-idling = (seven (f possible-moments) (f spaced-releases) (f one-at-a-time) (f no-idling) (f right-choice) (f never_free) (f limits-kept) e).3
-every_law_true f e right-choice = (seven (f possible-moments) (f spaced-releases) (f one-at-a-time) (f no-idling) (f right-choice) (f never_free) (f limits-kept) e).4
-every_law_true f e never_free = (seven (f possible-moments) (f spaced-releases) (f one-at-a-time) (f no-idling) (f right-choice) (f never_free) (f limits-kept) e).5
-every_law_true f e limits-kept = (seven (f possible-moments) (f spaced-releases) (f one-at-a-time) (f no-idling) (f right-choice) (f never_free) (f limits-kept) e).6
+every_law_true f e possible_moments = (seven (f possible_moments) (f spaced_releases) (f one_at_a_time) (f no_idling) (f right_choice) (f never_free) (f limits_kept) e).0
+every_law_true f e spaced_releases = (seven (f possible_moments) (f spaced_releases) (f one_at_a_time) (f no_idling) (f right_choice) (f never_free) (f limits_kept) e).1
+every_law_true f e one_at_a_time = (seven (f possible_moments) (f spaced_releases) (f one_at_a_time) (f no_idling) (f right_choice) (f never_free) (f limits_kept) e).2
+every_law_true f e no_idling = (seven (f possible_moments) (f spaced_releases) (f one_at_a_time) (f no_idling) (f right_choice) (f never_free) (f limits_kept) e).3
+every_law_true f e right_choice = (seven (f possible_moments) (f spaced_releases) (f one_at_a_time) (f no_idling) (f right_choice) (f never_free) (f limits_kept) e).4
+every_law_true f e never_free = (seven (f possible_moments) (f spaced_releases) (f one_at_a_time) (f no_idling) (f right_choice) (f never_free) (f limits_kept) e).5
+every_law_true f e limits_kept = (seven (f possible_moments) (f spaced_releases) (f one_at_a_time) (f no_idling) (f right_choice) (f never_free) (f limits_kept) e).6
 
 pub keeps_the_laws : (plan : Plan) (limits : ℕ → ℕ → Limit) (log : Log) → every_law (test plan limits log) ≡ true → KeepsTheLaws plan limits log
 keeps_the_laws plan limits log e law = passed plan limits log law (every_law_true (test plan limits log) e law)

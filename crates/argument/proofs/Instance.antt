@@ -92,30 +92,30 @@ none_there : (p : Bool) (b g x : ℕ) → b < g → on (p && eqb b g) x ≡ 0
 none_there p b g x l = on_false (p && eqb b g) x (and_right p (eqb b g) (ne_eqb b g (λ e. omega arith)))
 
 -- a law with another number than one at a time
-others_keep : (law : B.Law) → (number law ≡ number B.one-at-a-time → ⊥) → law ≡ B.one-at-a-time → ⊥
+others_keep : (law : B.Law) → (number law ≡ number B.one_at_a_time → ⊥) → law ≡ B.one_at_a_time → ⊥
 others_keep law ne same = ne (ap number same)
 
-module _ (plan : Plan) (limits : ℕ → ℕ → Limit) (log : B.Log) (sound : SoundPlan plan) (keeps : B.KeepsAllBut B.one-at-a-time plan limits log) where
+module _ (plan : Plan) (limits : ℕ → ℕ → Limit) (log : B.Log) (sound : SoundPlan plan) (keeps : B.KeepsAllBut B.one_at_a_time plan limits log) where
   abbrev core : ℕ → ℕ
   core k = B.core_of plan (log.job k)
 
   possibles : B.PossibleMoments plan log
-  possibles = keeps B.possible-moments (others_keep B.possible-moments (λ e. omega arith))
+  possibles = keeps B.possible_moments (others_keep B.possible_moments (λ e. omega arith))
 
   spaced : B.Spaced plan log
-  spaced = keeps B.spaced-releases (others_keep B.spaced-releases (λ e. omega arith))
+  spaced = keeps B.spaced_releases (others_keep B.spaced_releases (λ e. omega arith))
 
   busy : B.NoIdling plan log
-  busy = keeps B.no-idling (others_keep B.no-idling (λ e. omega arith))
+  busy = keeps B.no_idling (others_keep B.no_idling (λ e. omega arith))
 
   right : B.RightChoice plan log
-  right = keeps B.right-choice (others_keep B.right-choice (λ e. omega arith))
+  right = keeps B.right_choice (others_keep B.right_choice (λ e. omega arith))
 
   never_free : B.NeverFree plan log
   never_free = keeps B.never_free (others_keep B.never_free (λ e. omega arith))
 
   kept : B.LimitsKept plan limits log
-  kept = keeps B.limits-kept (others_keep B.limits-kept (λ e. omega arith))
+  kept = keeps B.limits_kept (others_keep B.limits_kept (λ e. omega arith))
 
   carries : (k t : ℕ) (y : B.Turn) (j : ℕ) → B.Carried plan log k t y j → (j : ℕ) × (y : ℕ) × G.Carried (to_plan plan) (to_log log) (core k) t j y
   carries k t B.A j v = (j, 0, record { known = v.known; other = v.other; turn = omega arith; from = v.from; to = v.to })
@@ -248,9 +248,9 @@ module _ (plan : Plan) (limits : ℕ → ℕ → Limit) (sound : SoundPlan plan)
             elim (cases_Bool (eqb (plan.row u).core b)) [
               | inr n ↦ on_false (eqb (plan.row u).core b) (f u) n
               | inl e ↦
-                  let no-offer = on_false (not (eqb (plan.row u).core i.core)) (ceil (w + (plan.row u).deadline) (plan.row u).spacing)
+                  let no_offer = on_false (not (eqb (plan.row u).core i.core)) (ceil (w + (plan.row u).deadline) (plan.row u).spacing)
                   (ap not (eq-eqb (plan.row u).core i.core (eqb-true (plan.row u).core b e ∙ same))) in
-                  let z : (x : ℕ) → x < 2 → X u x ≡ 0 = λ x q. omega (arith, ch.each u m x q, no-offer) in
+                  let z : (x : ℕ) → x < 2 → X u x ≡ 0 = λ x q. omega (arith, ch.each u m x q, no_offer) in
                   omega (arith, on_le (eqb (plan.row u).core b) (f u), ap (λ q. (plan.row u).a * q) (z 0 (omega arith)), ap (λ q. (plan.row u).r * q) (z 1 (omega arith)))
             ]
 

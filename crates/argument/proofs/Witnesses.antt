@@ -5,7 +5,7 @@ use Rattle.tasks.specs.declared.task.Row.{Row}
 use Rattle.tasks.specs.declared.outcome.Outcome.TheVariants.{Window}
 use Rattle.argument.specs.Plans.{Plan, plan_of, SoundPlan}
 use Rattle.argument.specs.Demand.{Settles}
-use Rattle.argument.specs.Logs.{Log, log_of, KeepsAllBut, SomeJobEndsBeyond, Law, possible-moments, spaced-releases, no-idling, right-choice, never_free, limits-kept}
+use Rattle.argument.specs.Logs.{Log, log_of, KeepsAllBut, SomeJobEndsBeyond, Law, possible_moments, spaced_releases, no_idling, right_choice, never_free, limits_kept}
 use Rattle.argument.specs.Samples.{log_row, lone, one_each}
 use Rattle.argument.specs.Theorems.{AllCovered, Needed, AWindowAloneIsNotEnough, AWindowCanBeReached}
 use Rattle.argument.proofs.Checks.{sound_plan, all_covered, window_for, keeps_the_laws, keeps_all_but}
@@ -37,22 +37,22 @@ of_lone law log = breaks law lone (3 ∷ []) log (sound_plan lone refl) (all_cov
 abbrev long_phase : Log
 long_phase = log_of (log_row 0 0 0 0 1 3 3 4 ∷ [])
 
-pub longer_phase : Needed possible-moments
-longer_phase = of_lone possible-moments long_phase (keeps_all_but possible-moments lone one_each long_phase refl) (0, lit< tt, lit< tt)
+pub longer_phase : Needed possible_moments
+longer_phase = of_lone possible_moments long_phase (keeps_all_but possible_moments lone one_each long_phase refl) (0, lit< tt, lit< tt)
 
 -- two jobs are released at once
 abbrev two_jobs : Log
 two_jobs = log_of (log_row 0 0 0 0 1 2 2 3 ∷ log_row 0 0 3 3 4 5 5 6 ∷ [])
 
-pub two_at_once : Needed spaced-releases
-two_at_once = of_lone spaced-releases two_jobs (keeps_all_but spaced-releases lone one_each two_jobs refl) (1, lit< tt, lit< tt)
+pub two_at_once : Needed spaced_releases
+two_at_once = of_lone spaced_releases two_jobs (keeps_all_but spaced_releases lone one_each two_jobs refl) (1, lit< tt, lit< tt)
 
 -- the core idles for a tick while the job is ready
 abbrev late_start : Log
 late_start = log_of (log_row 0 0 1 1 2 3 3 4 ∷ [])
 
-pub idle_tick : Needed no-idling
-idle_tick = of_lone no-idling late_start (keeps_all_but no-idling lone one_each late_start refl) (0, lit< tt, lit< tt)
+pub idle_tick : Needed no_idling
+idle_tick = of_lone no_idling late_start (keeps_all_but no_idling lone one_each late_start refl) (0, lit< tt, lit< tt)
 
 -- the bus is free for a tick while the job waits
 abbrev late_grant : Log
@@ -68,9 +68,9 @@ trio = plan_of 1 (task 0 1 9 9 1 1 1 ∷ task 0 2 9 9 1 1 1 ∷ task 0 3 9 9 1 1
 abbrev first_goes_last : Log
 first_goes_last = log_of (log_row 1 0 0 0 1 2 2 3 ∷ log_row 2 0 3 3 4 5 5 6 ∷ log_row 0 0 6 6 7 8 8 9 ∷ [])
 
-pub wrong_order : Needed right-choice
-wrong_order = breaks right-choice trio (6 ∷ 9 ∷ 9 ∷ []) first_goes_last (sound_plan trio refl)
-    (all_covered trio one_each (λ place. get_or (6 ∷ 9 ∷ 9 ∷ []) place 0) refl) (keeps_all_but right-choice trio one_each first_goes_last refl) (2, lit< tt, lit< tt)
+pub wrong_order : Needed right_choice
+wrong_order = breaks right_choice trio (6 ∷ 9 ∷ 9 ∷ []) first_goes_last (sound_plan trio refl)
+    (all_covered trio one_each (λ place. get_or (6 ∷ 9 ∷ 9 ∷ []) place 0) refl) (keeps_all_but right_choice trio one_each first_goes_last refl) (2, lit< tt, lit< tt)
 
 -- one task on core 0, three on core 1: the A turn of core 0 lets an R turn and then an A turn of core 1 pass
 abbrev one_and_three : Plan
@@ -79,9 +79,9 @@ one_and_three = plan_of 2 (task 0 1 100 100 1 1 1 ∷ task 1 1 100 100 1 1 1 ∷
 abbrev two_pass : Log
 two_pass = log_of (log_row 1 0 0 0 1 2 2 3 ∷ log_row 2 0 3 3 4 5 5 6 ∷ log_row 3 0 6 6 7 8 8 9 ∷ log_row 0 2 2 4 5 6 7 8 ∷ [])
 
-pub two_passed : Needed limits-kept
-two_passed = breaks limits-kept one_and_three (5 ∷ 10 ∷ 13 ∷ 13 ∷ []) two_pass (sound_plan one_and_three refl)
-    (all_covered one_and_three one_each (λ place. get_or (5 ∷ 10 ∷ 13 ∷ 13 ∷ []) place 0) refl) (keeps_all_but limits-kept one_and_three one_each two_pass refl) (3, lit< tt, lit< tt)
+pub two_passed : Needed limits_kept
+two_passed = breaks limits_kept one_and_three (5 ∷ 10 ∷ 13 ∷ 13 ∷ []) two_pass (sound_plan one_and_three refl)
+    (all_covered one_and_three one_each (λ place. get_or (5 ∷ 10 ∷ 13 ∷ 13 ∷ []) place 0) refl) (keeps_all_but limits_kept one_and_three one_each two_pass refl) (3, lit< tt, lit< tt)
 
 -- ---- logs that keep all laws
 

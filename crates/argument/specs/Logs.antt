@@ -157,17 +157,17 @@ LimitsKept plan limits log = (turn : Turn) (k : ℕ) → k < log.size → (core 
 
 -- the laws by name
 pub data Law : Type 0 where
-  possible-moments spaced-releases one-at-a-time no-idling right-choice never_free limits-kept : Law
+  possible_moments spaced_releases one_at_a_time no_idling right_choice never_free limits_kept : Law
 
 -- the log keeps a law of the plan, for an arbiter with these limits (`limits c b`: how many turns of b a wait of c may meet)
 abbrev pub Keeps : Plan → (ℕ → ℕ → Limit) → Log → Law → Type 0
-Keeps plan limits log possible-moments = PossibleMoments plan log
-Keeps plan limits log spaced-releases = Spaced plan log
-Keeps plan limits log one-at-a-time = OneAtATime plan log
-Keeps plan limits log no-idling = NoIdling plan log
-Keeps plan limits log right-choice = RightChoice plan log
+Keeps plan limits log possible_moments = PossibleMoments plan log
+Keeps plan limits log spaced_releases = Spaced plan log
+Keeps plan limits log one_at_a_time = OneAtATime plan log
+Keeps plan limits log no_idling = NoIdling plan log
+Keeps plan limits log right_choice = RightChoice plan log
 Keeps plan limits log never_free = NeverFree plan log
-Keeps plan limits log limits-kept = LimitsKept plan limits log
+Keeps plan limits log limits_kept = LimitsKept plan limits log
 
 -- it keeps all laws
 abbrev pub KeepsTheLaws : Plan → (ℕ → ℕ → Limit) → Log → Type 0

@@ -8,7 +8,7 @@ use Rattle.argument.specs.Plans.{Plan, SoundPlan}
 use Rattle.argument.specs.Demand.{share, GreatestTotal, demand, Covers, WindowFor, Settles}
 use Rattle.argument.specs.LongestFirst.{taken, Falling, Offers, offers_below}
 use Rattle.argument.specs.Jumps.{searched}
-use Rattle.argument.specs.Logs.{Log, Law, one-at-a-time, KeepsTheLaws, KeepsAllBut, EndsWithin, SomeJobEndsBeyond}
+use Rattle.argument.specs.Logs.{Log, Law, one_at_a_time, KeepsTheLaws, KeepsAllBut, EndsWithin, SomeJobEndsBeyond}
 use Rattle.argument.specs.General as General
 
 -- every task has a number from 1 to its deadline that covers its demand
@@ -25,7 +25,7 @@ EveryJobEndsWithinItsWindow = (plan : Plan) (limits : ℕ → ℕ → Limit) (lo
 -- the same for logs in which jobs of one core may overlap
 abbrev pub OneJobAtATimeIsNotNeeded : Type 0
 OneJobAtATimeIsNotNeeded = (plan : Plan) (limits : ℕ → ℕ → Limit) (log : Log) (windows : ℕ → ℕ)
-    → SoundPlan plan → AllCovered plan limits windows → KeepsAllBut one-at-a-time plan limits log → EndsWithin windows log
+    → SoundPlan plan → AllCovered plan limits windows → KeepsAllBut one_at_a_time plan limits log → EndsWithin windows log
 
 -- the bound needs a law: some log of a sound plan with windows keeps all the others, and has a job beyond its window
 pub record Needed (law : Law) : Type 0 where

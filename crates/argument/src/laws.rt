@@ -1,25 +1,25 @@
 // The laws are not idle: without any one of these six, some job ends beyond its window.
-ghost use Rattle.argument.specs.Logs.{possible-moments, spaced-releases, no-idling, right-choice, never_free, limits-kept};
+ghost use Rattle.argument.specs.Logs.{possible_moments, spaced_releases, no_idling, right_choice, never_free, limits_kept};
 ghost use Rattle.argument.specs.Theorems.{Needed};
 
 // A phase longer than its task's.
 pub fn the_bound_needs_possible_moments()
-    ensures { Needed possible-moments }
+    ensures { Needed possible_moments }
 {}
 
 // Two jobs of a task released at once.
 pub fn the_bound_needs_spacing()
-    ensures { Needed spaced-releases }
+    ensures { Needed spaced_releases }
 {}
 
 // A core that idles while a job is ready.
 pub fn the_bound_needs_no_idling()
-    ensures { Needed no-idling }
+    ensures { Needed no_idling }
 {}
 
 // The wrong one of the ready jobs started.
 pub fn the_bound_needs_the_right_choice()
-    ensures { Needed right-choice }
+    ensures { Needed right_choice }
 {}
 
 // A bus that is free while a turn waits.
@@ -29,5 +29,5 @@ pub fn the_bound_needs_a_bus_never_free()
 
 // More turns before a waiting one than its limit says.
 pub fn the_bound_needs_the_limits_kept()
-    ensures { Needed limits-kept }
+    ensures { Needed limits_kept }
 {}

@@ -5,7 +5,7 @@ use Rattle.tasks.specs.declared.limit.Limit.{Limit}
 use Rattle.tasks.specs.Limits.{Within}
 use Rattle.argument.specs.Sums.{sum, on}
 use Rattle.argument.specs.Plans.{Plan, SoundPlan}
-use Rattle.argument.specs.Logs.{Job, Log, Turn, A, R, joined, granted, ended, meets, row_of, core_of, met, Before, Possible, OnCore, Carried, Law, possible-moments, spaced-releases, one-at-a-time, no-idling, right-choice, never_free, limits-kept, KeepsTheLaws}
+use Rattle.argument.specs.Logs.{Job, Log, Turn, A, R, joined, granted, ended, meets, row_of, core_of, met, Before, Possible, OnCore, Carried, Law, possible_moments, spaced_releases, one_at_a_time, no_idling, right_choice, never_free, limits_kept, KeepsTheLaws}
 use Rattle.bus.specs.Turns.{Meaning}
 use Rattle.bridge.specs.Scripts.{Script, task_at, core_at}
 use Rattle.bridge.specs.Stages.{number, over}
@@ -81,13 +81,13 @@ module _ (P : Plan) (Z : Script) (ok : Allowed P Z) (lim : ℕ → ℕ → Limit
       (i.past.kept x k b l h ne (omega (arith, ended_all k l, at_some x)))
 
   pub lawful : KeepsTheLaws P lim L
-  lawful possible-moments = possible
-  lawful spaced-releases = ok.spaced
-  lawful one-at-a-time = single
-  lawful no-idling = taken
-  lawful right-choice = right
+  lawful possible_moments = possible
+  lawful spaced_releases = ok.spaced
+  lawful one_at_a_time = single
+  lawful no_idling = taken
+  lawful right_choice = right
   lawful never_free = carried
-  lawful limits-kept = limited
+  lawful limits_kept = limited
 
   pub alone : OnePhaseAtATime L
   alone x y j k a b ne = i.past.alone x y j k a b ne (omega (arith, ended_all j a, at_some x)) (omega (arith, ended_all k b, at_some y))

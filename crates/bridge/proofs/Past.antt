@@ -144,9 +144,9 @@ pub record New (P : Plan) (Z : Script) (g : ℕ → Cell) (j : ℕ) : Type 0 whe
 module _ (P : Plan) (Z : Script) (lim : ℕ → ℕ → Limit) (now : ℕ) (f g : ℕ → Cell) (later : (j : ℕ) → Later now (f j) (g j))
     (fits : (k : ℕ) → k < Z.size → FitsAt P Z now k (f k))
     (fresh : (j : ℕ) → j < Z.size → phase (f j) ≡ 0 → 1 ≤ phase (g j) → New P Z g j)
-    (new-kept : (x : Turn) (k b : ℕ) → k < Z.size → b < P.cores → (b ≡ core_at P Z k → ⊥) → phase (f k) ≤ at x → at x < phase (g k)
+    (new_kept : (x : Turn) (k b : ℕ) → k < Z.size → b < P.cores → (b ≡ core_at P Z k → ⊥) → phase (f k) ≤ at x → at x < phase (g k)
     → Within (lim (core_at P Z k) b) (sight P Z g (granted x (job_of Z k (g k))) (joined x (job_of Z k (g k))) b))
-    (new-alone : (x y : Turn) (j k : ℕ) → j < Z.size → k < Z.size → (j ≡ k → ⊥) → phase (f k) ≤ at y → at y < phase (g k) → at x < phase (g j)
+    (new_alone : (x y : Turn) (j k : ℕ) → j < Z.size → k < Z.size → (j ≡ k → ⊥) → phase (f k) ≤ at y → at y < phase (g k) → at x < phase (g j)
     → ended x (job_of Z j (g j)) ≤ granted y (job_of Z k (g k))) where
   zero_or : (n : ℕ) → (n ≡ 0) ⊎ (1 ≤ n)
   zero_or n = elim (cases_lt n 1) [ inl a ↦ inl (omega arith) | inr a ↦ inr a ]
@@ -188,7 +188,7 @@ module _ (P : Plan) (Z : Script) (lim : ℕ → ℕ → Limit) (now : ℕ) (f g 
           → Within (lim (core_at P Z k) b) (sight P Z g (granted x (job_of Z k (g k))) (joined x (job_of Z k (g k))) b)
       kept x k b a c ne s =
           elim (cases_lt (at x) (phase (f k))) [
-            | inr z ↦ new-kept x k b a c ne z s
+            | inr z ↦ new_kept x k b a c ne z s
             | inl u ↦
                 rw (granted_same Z k now (f k) (g k) (later k) x u, joined_same Z k now (f k) (g k) (later k) x (omega arith))
                 (within_le (lim (core_at P Z k) b)
@@ -202,9 +202,9 @@ module _ (P : Plan) (Z : Script) (lim : ℕ → ℕ → Limit) (now : ℕ) (f g 
       alone : (x y : Turn) (j k : ℕ) → j < Z.size → k < Z.size → (j ≡ k → ⊥) → at x < phase (g j) → at y < phase (g k) → Clear Z g x j y k
       alone x y j k a b ne s t =
           elim (cases_lt (at y) (phase (f k))) [
-            | inr u ↦ inl (new-alone x y j k a b ne u t s)
+            | inr u ↦ inl (new_alone x y j k a b ne u t s)
             | inl v ↦ elim (cases_lt (at x) (phase (f j))) [
-              | inr u ↦ inr (new-alone y x k j b a (λ e. ne (sym e)) u s t)
+              | inr u ↦ inr (new_alone y x k j b a (λ e. ne (sym e)) u s t)
               | inl u ↦
                   let ej = ended_same Z j now (f j) (g j) (later j) x u in
                   let gj = granted_same Z j now (f j) (g j) (later j) x u in

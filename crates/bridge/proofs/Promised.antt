@@ -3,7 +3,7 @@ use Rattle.std.proofs.Common.{◌≡◌, ℕ, ◌<◌, ◌≤◌, List, sym, ref
 use Rattle.tasks.specs.declared.limit.Limit.{Limit}
 use Rattle.tasks.specs.Limits.{Within}
 use Rattle.argument.specs.Plans.{Plan, SoundPlan}
-use Rattle.argument.specs.Logs.{Log, core_of, met, Possible, possible-moments, spaced-releases, one-at-a-time, no-idling, right-choice, never_free, limits-kept, KeepsTheLaws}
+use Rattle.argument.specs.Logs.{Log, core_of, met, Possible, possible_moments, spaced_releases, one_at_a_time, no_idling, right_choice, never_free, limits_kept, KeepsTheLaws}
 use Rattle.argument.proofs.Instance.{in_time}
 use Rattle.bus.specs.Turns.{Meaning}
 use Rattle.bus.specs.Means.{Means, Laws}
@@ -17,17 +17,17 @@ use Rattle.bridge.proofs.Ending.{every_run_ends}
 -- the laws know limits between two different cores of the plan only
 other_limits : (plan : Plan) (limits : ℕ → ℕ → Limit) (m : Meaning) (log : Log) → SoundPlan plan → m.ports ≡ plan.cores → HasLimits limits m
     → KeepsTheLaws plan m.limit log → KeepsTheLaws plan limits log
-other_limits plan limits m log sound ports same h possible-moments = h possible-moments
-other_limits plan limits m log sound ports same h spaced-releases = h spaced-releases
-other_limits plan limits m log sound ports same h one-at-a-time = h one-at-a-time
-other_limits plan limits m log sound ports same h no-idling = h no-idling
-other_limits plan limits m log sound ports same h right-choice = h right-choice
+other_limits plan limits m log sound ports same h possible_moments = h possible_moments
+other_limits plan limits m log sound ports same h spaced_releases = h spaced_releases
+other_limits plan limits m log sound ports same h one_at_a_time = h one_at_a_time
+other_limits plan limits m log sound ports same h no_idling = h no_idling
+other_limits plan limits m log sound ports same h right_choice = h right_choice
 other_limits plan limits m log sound ports same h never_free = h never_free
-other_limits plan limits m log sound ports same h limits-kept = λ turn k l core b ne.
-    let p = sound.placed (log.job k).task (h possible-moments k l).known in
+other_limits plan limits m log sound ports same h limits_kept = λ turn k l core b ne.
+    let p = sound.placed (log.job k).task (h possible_moments k l).known in
     subst (λ limit. Within limit (met plan log turn (log.job k) core))
     (same (core_of plan (log.job k)) core (omega arith) (omega arith) ne)
-    (h limits-kept turn k l core b ne)
+    (h limits_kept turn k l core b ne)
 
 pub promised : {X : Type 0} (means : Means X) → Laws means → EveryJobOfEveryRunEndsWithinItsWindow means
 promised means laws plan limits windows sound covered script lawful =

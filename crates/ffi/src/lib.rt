@@ -32,8 +32,8 @@ pub struct Found {
 
 // Makes a plan of the tasks, settles it so many times on the arbiter of its bus line, and tells each task's outcome as far as there is room.
 // Answers how many tasks are late, or the greatest number there is where a call was refused.
-#[unsafe(no_mangle)]
-pub extern "C" fn settler_settle(
+// The crate `ffi_c` gives it to C.
+pub fn settler_settle(
     heap: Global,
     cores: u8,
     bottom: u8,

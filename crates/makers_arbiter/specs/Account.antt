@@ -12,8 +12,8 @@ one b = cond b 1 0
 
 -- how often b may come before a, from: a is in the batch; b is; b is lower
 abbrev pub turns_before : Bool → Bool → Bool → ℕ
-turns_before true b-in lower = one (b-in && lower)
-turns_before false b-in lower = one b-in + one lower
+turns_before true b_in lower = one (b_in && lower)
+turns_before false b_in lower = one b_in + one lower
 
 -- Before port a of the batch come those of the batch that are lower. Before port a of those who joined comes the whole batch, then the lower ones once more.
 abbrev pub still_before : ℕ → ℕ → ℕ → ℕ

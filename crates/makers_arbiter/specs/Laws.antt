@@ -66,14 +66,14 @@ batch_granting s c t j =
     let in_batch : has batch c ≡ true = j.waited in
     let left : has t.batch c ≡ false = ap (λ m. has m c) j.batch ∙ has_xor_same batch c in_batch in
     let gone : in_either t.batch t.joined c ≡ false = or_both_false (has t.batch c) (has t.joined c) left (ap (λ m. has m c) j.joined ∙ o.apart c in_batch) in
-    let in-t : (p : ℕ) → (p ≢ c) → has t.batch p ≡ has batch p = λ p ne. ap (λ m. has m p) j.batch ∙ has_xor_other batch c p ne in
+    let in_t : (p : ℕ) → (p ≢ c) → has t.batch p ≡ has batch p = λ p ne. ap (λ m. has m p) j.batch ∙ has_xor_other batch c p ne in
     let others : (p : ℕ) → (p ≢ c) → in_either t.batch t.joined p ≡ in_either s.batch s.joined p = λ p ne.
-    ap (λ u. u || has t.joined p) (in-t p ne) ∙ ap (λ m. has batch p || has m p) j.joined ∙ o.same p in
+    ap (λ u. u || has t.joined p) (in_t p ne) ∙ ap (λ m. has batch p || has m p) j.joined ∙ o.same p in
     let apart : (a : ℕ) → in_either t.batch t.joined a ≡ true → a ≡ c → ⊥ = λ a e f. both_ways (in_either t.batch t.joined c) gone (ap (in_either t.batch t.joined) (sym f) ∙ e) in
     let waited : in_either s.batch s.joined c ≡ true = sym (o.same c) ∙ ap (λ u. u || has later c) in_batch in
     let port : c < s.ports = has_below batch c s.ports o.low in_batch in
     let after : (a b : ℕ) → in_either t.batch t.joined a ≡ true → still_before t.batch a b ≡ turns_before (has batch a) (has t.batch b) (nat_lt b a) = λ a b e.
-    ap (λ u. turns_before u (has t.batch b) (nat_lt b a)) (in-t a (apart a e)) in
+    ap (λ u. turns_before u (has t.batch b) (nat_lt b a)) (in_t a (apart a e)) in
     let was : (a b : ℕ) → in_either t.batch t.joined a ≡ true → turns_before (has batch a) (has batch b) (nat_lt b a) ≤ still_before s.batch a b = λ a b e.
     o.still a b (sym (others a (apart a e)) ∙ e) in
     let falls : (a : ℕ) → in_either t.batch t.joined a ≡ true → still_before t.batch a c + 1 ≤ still_before s.batch a c = λ a e.
@@ -93,7 +93,7 @@ batch_granting s c t j =
       falls = falls;
       kept = λ a b e. elim (cases_eq b c) [
         | inl q ↦ (let f : still_before t.batch a b + 1 ≤ still_before s.batch a b = subst (λ x. still_before t.batch a x + 1 ≤ still_before s.batch a x) (sym q) (falls a e) in omega arith)
-        | inr n ↦ (let x : turns_before (has batch a) (has t.batch b) (nat_lt b a) ≡ turns_before (has batch a) (has batch b) (nat_lt b a) = ap (λ v. turns_before (has batch a) v (nat_lt b a)) (in-t b n) in omega (arith, after a b e, was a b e, x))
+        | inr n ↦ (let x : turns_before (has batch a) (has t.batch b) (nat_lt b a) ≡ turns_before (has batch a) (has batch b) (nat_lt b a) = ap (λ v. turns_before (has batch a) v (nat_lt b a)) (in_t b n) in omega (arith, after a b e, was a b e, x))
       ];
     }
 

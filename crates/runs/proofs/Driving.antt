@@ -304,14 +304,14 @@ module _ {X : Type 0} (B : Means X) (P : Plan) (J : List Job) (x : X) where
               jumped : run P Z more.0 t ≡ at_moment t T
               jumped =
                   let e = more.1.next in
-                  let allowed-run : AllowedRun P Z more.0 (suc time) (B.meaning x) (B.meaning y₃) = record {
+                  let allowed_run : AllowedRun P Z more.0 (suc time) (B.meaning x) (B.meaning y₃) = record {
                     sound = d.at.sound;
                     lawful = d.at.lawful;
                     ports = d.at.ports;
                     idle = d.at.idle;
                     turns = (keeps_rule B laws x (run P Z more.0 (suc time)).events y₃ d.at.stood (subst (λ (U : State). Course B x U.events y₃) (sym e) g.course)).0;
                   } in
-                  time_may_jump P Z more.0 (suc time) t (B.meaning x) (B.meaning y₃) later allowed-run
+                  time_may_jump P Z more.0 (suc time) t (B.meaning x) (B.meaning y₃) later allowed_run
                   (λ s a b. subst (λ (U : State). Quiet Z (at_moment s U)) (sym e) (quiet s a b))
                   ∙ ap (at_moment t) e
 

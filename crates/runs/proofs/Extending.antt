@@ -35,8 +35,8 @@ module _ (P : Plan) (Z : Script) (cs : List ℕ) (n p : ℕ) (count : length cs 
     | somebody h ↦ (
         let ds = cs ++ (p ∷ []) in
         let same : run P Z cs n ≡ run P Z ds n = agree P Z cs ds n (λ i l. sym (get_or_append_left cs (p ∷ []) 0 i (omega (arith, l, count)))) in
-        let where-at : many P Z ds n ≡ length cs = ap (λ (T : State). length (grants_of T.events)) (sym same) ∙ sym count in
-        let port : get_or ds (many P Z ds n) 0 ≡ p = ap (λ i. get_or ds i 0) where-at ∙ at_end cs p in
+        let where_at : many P Z ds n ≡ length cs = ap (λ (T : State). length (grants_of T.events)) (sym same) ∙ sym count in
+        let port : get_or ds (many P Z ds n) 0 ≡ p = ap (λ i. get_or ds i 0) where_at ∙ at_end cs p in
         let next : run P Z ds (suc n) ≡ tick (moment P Z p (run P Z cs n)) = ap tick (ap (λ q. moment P Z q (run P Z ds n)) port ∙ ap (moment P Z p) (sym same)) in
         let more = ap G (h p) ∙ grants_grant Z (Before P Z (run P Z cs n)) p ((Before P Z (run P Z cs n)).has p) ∙ ap (◌∷◌ p) (grants_before P Z (run P Z cs n)) in (
           ds,

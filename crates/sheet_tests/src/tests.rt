@@ -25,10 +25,10 @@ fn the_third_task_is_written_as_its_record(rt: HostRuntime) -> Result<(), Fail> 
     plan.add(THIRD)?;
     let mut out = [7u8; 40];
     assert_eq!(rt; plan.save(&mut out), Ok(34));
-    assert_eq!(rt; &out[0..7], &[1, 0, 4, 1, 2, 1, 0]);
-    assert_eq!(rt; &out[7..34], &third_record());
+    assert_eq!(rt; &out[0..7], [1, 0, 4, 1, 2, 1, 0].as_slice());
+    assert_eq!(rt; &out[7..34], third_record().as_slice());
     // bytes beyond those written stay
-    assert_eq!(rt; &out[34..40], &[7, 7, 7, 7, 7, 7]);
+    assert_eq!(rt; &out[34..40], [7, 7, 7, 7, 7, 7].as_slice());
     Ok(())
 }
 
@@ -181,7 +181,7 @@ fn a_refused_load_leaves_the_plan(rt: HostRuntime) -> Result<(), Fail> {
     );
     let mut out = zeros(&rt, 88)?;
     assert_eq!(rt; plan.save(out.as_mut_slice()), Ok(88));
-    assert_eq!(rt; out.as_slice(), &box_sheet());
+    assert_eq!(rt; out.as_slice(), box_sheet().as_slice());
     Ok(())
 }
 
@@ -222,10 +222,10 @@ fn save_writes_all_or_nothing(rt: HostRuntime) -> Result<(), Fail> {
     let mut plan = Plan::open(rt.alloc(), 3, 2, &[2, 0])?;
     let mut few = [9u8; 8];
     assert_eq!(rt; plan.save(&mut few), Err(Refusal::Narrow));
-    assert_eq!(rt; &few[..], &[9, 9, 9, 9, 9, 9, 9, 9]);
+    assert_eq!(rt; &few[..], [9, 9, 9, 9, 9, 9, 9, 9].as_slice());
     let mut enough = [9u8; 10];
     assert_eq!(rt; plan.save(&mut enough), Ok(9));
-    assert_eq!(rt; &enough[..], &[1, 0, 6, 1, 3, 2, 2, 2, 0, 9]);
+    assert_eq!(rt; &enough[..], [1, 0, 6, 1, 3, 2, 2, 2, 0, 9].as_slice());
     Ok(())
 }
 
@@ -237,9 +237,9 @@ fn print_needs_a_settled_plan_and_room(rt: HostRuntime) -> Result<(), Fail> {
     assert_eq!(rt; plan.print(&mut out[0..0]), Err(Refusal::Edited));
     plan.settle(&Queue::new(2)?)?;
     assert_eq!(rt; plan.print(&mut out[0..6]), Err(Refusal::Narrow));
-    assert_eq!(rt; &out[..], &[9, 9, 9, 9, 9, 9, 9, 9, 9]);
+    assert_eq!(rt; &out[..], [9, 9, 9, 9, 9, 9, 9, 9, 9].as_slice());
     assert_eq!(rt; plan.print(&mut out), Ok(7));
-    assert_eq!(rt; &out[..], b"late 0\n\x09\x09");
+    assert_eq!(rt; &out[..], b"late 0\n\x09\x09".as_slice());
     Ok(())
 }
 
@@ -252,7 +252,7 @@ fn the_box_prints_its_windows(rt: HostRuntime) -> Result<(), Fail> {
     assert_eq!(rt; plan.print(&mut out), Ok(49));
     assert_eq!(rt;
         &out[..],
-        b"1 0 window 31\n2 0 window 31\n3 1 window 20\nlate 0\n"
+        b"1 0 window 31\n2 0 window 31\n3 1 window 20\nlate 0\n".as_slice()
     );
     Ok(())
 }

@@ -15,8 +15,8 @@ headed rest p n room is some fits =
 pub not_empty : (rest : List ℕ) (n : ℕ) → 3 ≤ length rest → n ≡ two rest 0 → (leb 2 (length rest) && eqb (two rest 0) 0) ≡ false → n ≡ 0 → ⊥
 not_empty rest n room is tested none =
     let two_bytes : leb 2 (length rest) ≡ true = le-leb 2 (length rest) (omega arith) in
-    let zero-length : eqb (two rest 0) 0 ≡ true = eq-eqb (two rest 0) 0 (sym is ∙ none) in
-    both_ways (leb 2 (length rest) && eqb (two rest 0) 0) tested (and_from (leb 2 (length rest)) (eqb (two rest 0) 0) two_bytes zero-length)
+    let zero_length : eqb (two rest 0) 0 ≡ true = eq-eqb (two rest 0) 0 (sym is ∙ none) in
+    both_ways (leb 2 (length rest) && eqb (two rest 0) 0) tested (and_from (leb 2 (length rest)) (eqb (two rest 0) 0) two_bytes zero_length)
 
 pub goes_on : (sheet : List ℕ) (p : ℕ) → p < length sheet → present (head_of (take (length sheet - p) (drop p sheet)) p) ≡ record_at sheet p
 goes_on sheet p inside = rw (lt-leb (length sheet) p inside, take_rest sheet p) refl

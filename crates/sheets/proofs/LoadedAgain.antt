@@ -123,7 +123,7 @@ loaded_again plan may =
     let size : length sheet ≡ 1 + (length front + length (tasks_bytes rows)) = ap suc (length-append front (tasks_bytes rows)) ∙ omega arith in
     let start : start_of sheet ≡ Ok 1 = rw (ne_eqb (length sheet) 0 (omega (arith, size))) refl in
     let found : record_at sheet 1 ≡ Ok (Some part) = record_of sheet 1 (4 + length favours) 1 body (tasks_bytes rows) (omega arith) refl in
-    let headed-by : head_in 1 (record_at sheet 1) ≡ Ok head = ap (head_in 1) found ∙ ap (head_held 1) (platform_of 1 cores bottom favours may.line) in
+    let headed_by : head_in 1 (record_at sheet 1) ≡ Ok head = ap (head_in 1) found ∙ ap (head_held 1) (platform_of 1 cores bottom favours may.line) in
     let next = place_after (record_at sheet 1) 1 in
     let place : length (1 ∷ front) ≡ next = omega arith ∙ sym (ap (λ x. place_after x 1) found) in
     let after : drop next sheet ≡ tasks_bytes rows = drop_at (1 ∷ front) (tasks_bytes rows) next place in
@@ -131,6 +131,6 @@ loaded_again plan may =
     let read : rows_from (suc (length sheet)) cores sheet next [] ≡ Ok rows =
     rows_forth (suc (length sheet)) cores sheet next [] rows (omega (arith, size, tasks_long rows)) after sound in
     ap (λ s. started s sheet) start
-    ∙ ap (λ h. headed h sheet next) headed-by
+    ∙ ap (λ h. headed h sheet next) headed_by
     ∙ ap (λ v. planned_by head v sheet next) may.platform
     ∙ ap (with_rows head) read

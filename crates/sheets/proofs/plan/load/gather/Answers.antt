@@ -15,8 +15,8 @@ loop-more-preserved c =
     let sheet = c.loop-more.reader.sheet.now in let p = c.loop-more.reader.place in
     let more = c.loop-more.invariant.0.0 in let enough = c.loop-more.invariant.0.1 in
     let said = c.in-Ok.ensures in
-    let true-more = c.if-not-more.false in
-    let on = said.further (ap Ok true-more) in
+    let true_more = c.if-not-more.false in
+    let on = said.further (ap Ok true_more) in
     let rest = rows_from (more - 1) c.args.cores sheet (place_after (record_at sheet p) p) in
     let size = ap length said.sheet in (
       (
@@ -24,7 +24,7 @@ loop-more-preserved c =
         omega (arith, size, still_enough (length sheet) p c.advance.new.reader.place more enough on.0 on.1),
         goes_on_with more c.args.cores sheet p (vec_items c.loop-more.rows) _ (omega (arith, enough)) c.loop-more.invariant.0.2
             c.advance.new.reader.sheet.now c.advance.new.reader.place (vec_items c.advance.new.rows) said.sheet said.place
-            (said.value rest ∙ ap (λ b. advanced (Ok b) (vec_items c.advance.new.rows) rest) true-more),
+            (said.value rest ∙ ap (λ b. advanced (Ok b) (vec_items c.advance.new.rows) rest) true_more),
       ),
       omega (arith, said.room, c.loop-more.invariant.1),
       said.room ∙ c.loop-more.invariant.2,
