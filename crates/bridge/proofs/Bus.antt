@@ -1,18 +1,17 @@
 -- The cores and the bus: who is on a core, who waits and who is in service, and what room each wait has left.
-use Rattle.std.proofs.Common.{◌≡◌, ℕ, zero, suc, ◌+◌, ◌*◌, ◌<◌, ◌≤◌, Bool, true, false, cond, ◌&&◌, eqb, ltb, leb, ◌⊎◌, Some, None, Option, sym, refl, ap, ◌∙◌, subst, inl, inr, arith}
-use Rattle.std.proofs.lemmas.Bool.{cases_eq, cases_lt, cases_Bool, both_ways, eq-eqb, ne_eqb, and_parts, and_from, ltb-true, lt-ltb}
-use Rattle.argument.specs.Logs.{Job, Turn, A, R, joined, granted, ended}
+use Rattle.std.proofs.Common.{◌≡◌, ℕ, suc, ◌+◌, ◌<◌, ◌≤◌, Bool, true, false, ◌&&◌, eqb, ltb, Some, None, Option, sym, refl, ap, ◌∙◌, subst, inl, inr, arith}
+use Rattle.std.proofs.lemmas.Bool.{cases_eq, cases_Bool, both_ways, eq-eqb, ne_eqb, and_parts, and_from, ltb-true, lt-ltb}
+use Rattle.argument.specs.Logs.{Turn, A, R, joined, granted, ended}
 use Rattle.argument.specs.Plans.{Plan}
 use Rattle.argument.specs.Sums.{sum, on}
 use Rattle.bridge.proofs.Cells.{phase}
 use Rattle.bridge.specs.Scripts.{Script, task_at, core_at}
 use Rattle.bridge.specs.States.{Cell, job_of}
-use Rattle.bus.specs.Turns.{Meaning, SameBus, Joined, Granted, Done, with_served}
-use Rattle.tasks.specs.Limits.{Within, AtMost, more}
+use Rattle.bus.specs.Turns.{Meaning, Joined, Granted, Done, with_served}
+use Rattle.tasks.specs.Limits.{Within, AtMost}
 use Rattle.tasks.specs.declared.limit.Limit.{Limit}
-use Rattle.tasks.specs.declared.task.Row.{Row}
 use Rattle.bridge.proofs.Sums.{sum_zero, sum_le, sum_bump, on_le, on_false, on_mono, on_imp}
-use Rattle.bridge.proofs.Cells.{at, at_some, Fits, Later, joined_same, joined_new, granted_same, granted_new, ended_same, joined_now, granted_now, serves_now, ended_now}
+use Rattle.bridge.proofs.Cells.{at, at_some, Later, joined_same, joined_new, granted_new, ended_same, joined_now, ended_now}
 use Rattle.bridge.proofs.Past.{FitsAt, seen, sight}
 use Rattle.bridge.proofs.Rooms.{Room, room_keep, room_fall, room_fresh, room_served, room_within, at_most_same}
 

@@ -1,7 +1,7 @@
 -- Cells: one that is put, what a phase says of the times, and what a later cell keeps.
-use Rattle.std.proofs.Common.{◌≡◌, ℕ, zero, suc, ◌+◌, ◌*◌, ◌<◌, ◌≤◌, Bool, true, false, cond, eqb, ◌⊎◌, sym, refl, ap, ◌∙◌, subst, inl, inr, arith}
-use Rattle.std.proofs.lemmas.Bool.{cases_eq, cases_lt, eq-eqb, ne_eqb}
-use Rattle.argument.specs.Logs.{Job, Turn, A, R, joined, granted, ended}
+use Rattle.std.proofs.Common.{◌≡◌, ℕ, suc, ◌+◌, ◌<◌, ◌≤◌, ◌⊎◌, sym, refl, subst, inl, inr, arith}
+use Rattle.std.proofs.lemmas.Bool.{cases_eq, eq-eqb, ne_eqb}
+use Rattle.argument.specs.Logs.{Turn, A, R, joined, granted, ended}
 use Rattle.bridge.specs.Moments.{started, fetching, executing, executed, returning, returned}
 use Rattle.bridge.specs.Scripts.{Script}
 use Rattle.bridge.specs.Stages.{number}

@@ -1,5 +1,5 @@
 -- Every tick brings some job nearer to its end, so that every run ends.
-use Rattle.std.proofs.Common.{◌≡◌, ℕ, zero, suc, ◌+◌, ◌-◌, ◌<◌, ◌≤◌, Bool, true, false, cond, eqb, leb, ◌⊎◌, List, [], ◌∷◌, length, get_or, Some, None, Option, sym, refl, ap, ◌∙◌, subst, inl, inr, arith}
+use Rattle.std.proofs.Common.{◌≡◌, ℕ, zero, suc, ◌+◌, ◌<◌, ◌≤◌, Bool, true, false, cond, eqb, leb, ◌⊎◌, List, length, get_or, Some, None, Option, refl, inl, inr, arith}
 use Rattle.std.proofs.lemmas.Bool.{cases_eq, cases_lt}
 use Rattle.argument.specs.Sums.{sum}
 use Rattle.argument.specs.Plans.{Plan, SoundPlan}
@@ -7,17 +7,17 @@ use Rattle.argument.specs.Logs.{Turn, A, R}
 use Rattle.argument.proofs.Sums.{sum_le, sum_lt}
 use Rattle.bus.specs.Turns.{Meaning, Idle}
 use Rattle.bridge.specs.Scripts.{Script, Release, core_at}
-use Rattle.bridge.specs.Stages.{number, over}
-use Rattle.bridge.specs.States.{Cell, State, begun, blank, Complete}
+use Rattle.bridge.specs.Stages.{over}
+use Rattle.bridge.specs.States.{Cell, State, begun, Complete}
 use Rattle.bridge.specs.Moments.{moment}
 use Rattle.bridge.specs.Runs.{tick, run, grants_of}
-use Rattle.bridge.specs.Promises.{AllowedRun, EveryRunEnds}
+use Rattle.bridge.specs.Promises.{EveryRunEnds}
 use Rattle.bridge.proofs.Allowed.{Allowed, allowed}
 use Rattle.bridge.proofs.Kept.{Keeps, keeps}
 use Rattle.bridge.proofs.Staged.{same_stage}
-use Rattle.bridge.proofs.Cells.{phase, at, at_some}
+use Rattle.bridge.proofs.Cells.{phase, at}
 use Rattle.bridge.proofs.Moves.{Inv, Good}
-use Rattle.bridge.proofs.Due.{due, next, NextOf, next_of, Asks, for_release, for_a, for_e, for_r, due_asks, due_release, due_a, due_e, due_r}
+use Rattle.bridge.proofs.Due.{due, next, NextOf, next_of, for_release, for_a, for_e, for_r, due_asks, due_release, due_a, due_e, due_r}
 use Rattle.bridge.proofs.Steps.{Settled, settled_moment}
 use Rattle.bridge.proofs.Left.{left, left_0, left_2, left_3, left_5}
 use Rattle.bridge.proofs.Onward.{Grows, After, after_moment}

@@ -1,15 +1,15 @@
 -- A moment at which nothing is due changes nothing.
-use Rattle.std.proofs.Common.{◌≡◌, ℕ, zero, suc, ◌+◌, ◌-◌, ◌<◌, ◌≤◌, Bool, true, false, cond, ◌&&◌, eqb, ◌⊎◌, List, [], ◌∷◌, length, get_or, Some, None, Option, sym, refl, ap, ◌∙◌, subst, inl, inr, arith}
-use Rattle.std.proofs.lemmas.Bool.{cases_eq, cases_lt, cases_Bool, both_ways, cond_both, cond-true, cond-false, and_parts, eqb-true}
+use Rattle.std.proofs.Common.{◌≡◌, ℕ, zero, suc, ◌+◌, ◌-◌, ◌<◌, ◌≤◌, Bool, cond, ◌&&◌, eqb, List, length, get_or, Some, None, Option, sym, refl, ap, ◌∙◌, subst, inl, inr, arith}
+use Rattle.std.proofs.lemmas.Bool.{cases_eq, cases_Bool, both_ways, cond_both, cond-true, cond-false, and_parts, eqb-true}
 use Rattle.tasks.specs.declared.limit.Limit.{Limit}
 use Rattle.argument.specs.Sums.{any}
 use Rattle.argument.specs.Plans.{Plan, SoundPlan}
-use Rattle.argument.specs.Logs.{Turn, A, R}
+use Rattle.argument.specs.Logs.{Turn}
 use Rattle.bus.specs.Turns.{Meaning, Idle}
 use Rattle.bus.specs.Courses.{RuleCourse}
 use Rattle.bridge.specs.Scripts.{Script, core_at}
-use Rattle.bridge.specs.Stages.{Stage, unstarted, in_A, in_E, in_R, number}
-use Rattle.bridge.specs.States.{State, begun}
+use Rattle.bridge.specs.Stages.{unstarted, in_A, in_E, in_R}
+use Rattle.bridge.specs.States.{State}
 use Rattle.bridge.specs.Moments.{end_a, end_r, finish_at, finishes, first, join_r, begin_at, act_at, acts, serving, waits_now, grant_a, grant_r, grant_at, granting, moment}
 use Rattle.bridge.specs.Runs.{tick, run, at_moment, grants_of}
 use Rattle.bridge.specs.Promises.{AllowedRun, Quiet, AQuietMomentChangesNothing, TimeMayJump}
@@ -17,9 +17,8 @@ use Rattle.bridge.proofs.Allowed.{Allowed, allowed}
 use Rattle.bridge.proofs.Kept.{Keeps, keeps}
 use Rattle.bridge.proofs.Staged.{same_stage}
 use Rattle.bridge.proofs.Cells.{phase, at, at_some}
-use Rattle.bridge.proofs.Moves.{Inv, Good}
+use Rattle.bridge.proofs.Moves.{Inv}
 use Rattle.bridge.proofs.Steps.{Ready, ready_parts, FirstOf, first_of, any_true, Settled, settled_moment}
-use Rattle.bridge.proofs.Onward.{After, after_moment}
 use Rattle.bridge.proofs.Ties.{any_from, serving_from, waiting_true}
 use Rattle.bridge.proofs.Ticks.{core_below, good_run}
 

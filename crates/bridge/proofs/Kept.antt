@@ -1,5 +1,5 @@
 -- A course of the turn rule, taken apart event by event.
-use Rattle.std.proofs.Common.{◌≡◌, ℕ, List, [], ◌∷◌, refl}
+use Rattle.std.proofs.Common.{◌≡◌, List, [], ◌∷◌, refl}
 use Rattle.bus.specs.Turns.{Meaning, Joined, Granted, Done}
 use Rattle.bus.specs.Courses.{Event, joins, grants, ends, RuleCourse}
 

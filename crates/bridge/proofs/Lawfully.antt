@@ -1,22 +1,22 @@
 -- The log of a run that is over keeps the laws, and the bus carried one phase at a time.
-use Rattle.std.proofs.Common.{◌≡◌, ℕ, zero, suc, ◌+◌, ◌<◌, ◌≤◌, Bool, true, false, ◌&&◌, eqb, ltb, ◌⊎◌, List, sym, refl, ap, ◌∙◌, subst, inl, inr, arith}
-use Rattle.std.proofs.lemmas.Bool.{cases_eq, cases_lt, and_from, lt-ltb}
+use Rattle.std.proofs.Common.{◌≡◌, ℕ, ◌+◌, ◌<◌, ◌≤◌, eqb, ltb, ◌⊎◌, List, ap, inl, inr, arith}
+use Rattle.std.proofs.lemmas.Bool.{and_from, lt-ltb}
 use Rattle.tasks.specs.declared.limit.Limit.{Limit}
 use Rattle.tasks.specs.Limits.{Within}
-use Rattle.argument.specs.Sums.{sum, on}
-use Rattle.argument.specs.Plans.{Plan, SoundPlan}
-use Rattle.argument.specs.Logs.{Job, Log, Turn, A, R, joined, granted, ended, meets, row_of, core_of, met, Before, Possible, OnCore, Carried, Law, possible_moments, spaced_releases, one_at_a_time, no_idling, right_choice, never_free, limits_kept, KeepsTheLaws}
+use Rattle.argument.specs.Sums.{on}
+use Rattle.argument.specs.Plans.{Plan}
+use Rattle.argument.specs.Logs.{Log, Turn, A, R, joined, granted, meets, core_of, met, Before, Possible, OnCore, Carried, possible_moments, spaced_releases, one_at_a_time, no_idling, right_choice, never_free, limits_kept, KeepsTheLaws}
 use Rattle.bus.specs.Turns.{Meaning}
 use Rattle.bridge.specs.Scripts.{Script, task_at, core_at}
-use Rattle.bridge.specs.Stages.{number, over}
-use Rattle.bridge.specs.States.{State, log_of, job_of, Complete}
+use Rattle.bridge.specs.Stages.{number}
+use Rattle.bridge.specs.States.{State, log_of, Complete}
 use Rattle.bridge.specs.Runs.{run}
 use Rattle.bridge.specs.Promises.{AllowedRun, OnePhaseAtATime, EveryRunKeepsTheLaws, TheBusCarriesOnePhaseAtATime}
 use Rattle.bridge.proofs.Allowed.{Allowed, allowed}
 use Rattle.bridge.proofs.Kept.{keeps}
 use Rattle.bridge.proofs.Sums.{sum_le, on_mono, on_imp}
 use Rattle.bridge.proofs.Cells.{phase, at, at_some, granted_now}
-use Rattle.bridge.proofs.Past.{FitsAt, Past, seen, sight, within_le}
+use Rattle.bridge.proofs.Past.{seen, sight, within_le}
 use Rattle.bridge.proofs.Moves.{Inv}
 use Rattle.bridge.proofs.Ticks.{good_run}
 

@@ -1,5 +1,5 @@
 -- How many ticks a job is still on the way, waits for the bus not counted.
-use Rattle.std.proofs.Common.{◌≡◌, ℕ, suc, ◌+◌, ◌-◌, ◌<◌, ◌≤◌, cond, eqb, leb, refl, arith}
+use Rattle.std.proofs.Common.{◌≡◌, ℕ, ◌+◌, ◌-◌, ◌≤◌, cond, eqb, leb, refl, arith}
 use Rattle.bridge.specs.Scripts.{Release}
 use Rattle.bridge.specs.States.{Cell}
 use Rattle.bridge.specs.Moments.{started, fetching, executing, executed, returning, returned}

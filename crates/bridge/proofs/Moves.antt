@@ -1,22 +1,19 @@
 -- The six ways on of a job, and what they keep.
-use Rattle.std.proofs.Common.{◌≡◌, ℕ, zero, suc, ◌+◌, ◌*◌, ◌<◌, ◌≤◌, Bool, true, false, cond, ◌&&◌, eqb, ltb, leb, ◌⊎◌, List, [], ◌∷◌, Some, None, Option, sym, refl, ap, ◌∙◌, subst, inl, inr, arith}
+use Rattle.std.proofs.Common.{◌≡◌, ℕ, suc, ◌<◌, ◌≤◌, ◌⊎◌, Some, None, Option, sym, refl, ap, ◌∙◌, subst, inl, inr, arith}
 use Rattle.std.proofs.lemmas.Bool.{cases_eq, cases_lt}
-use Rattle.argument.specs.Logs.{Job, Turn, A, R, joined, granted, ended}
+use Rattle.argument.specs.Logs.{Turn, A, R}
 use Rattle.argument.specs.Plans.{Plan}
 use Rattle.bridge.proofs.Allowed.{Allowed}
 use Rattle.bridge.proofs.Cells.{phase}
 use Rattle.bridge.proofs.Kept.{Keeps}
 use Rattle.bridge.specs.Moments.{started, fetching, executing, executed, returning, returned, end_a, end_r, join_a, join_r, grant_a, grant_r}
-use Rattle.bridge.specs.Scripts.{Script, task_at, core_at}
-use Rattle.bridge.specs.States.{Cell, State, job_of, put}
-use Rattle.bus.specs.Courses.{Event, joins, grants, ends}
-use Rattle.bus.specs.Turns.{Meaning, Joined, Granted, Done}
-use Rattle.tasks.specs.Limits.{Within}
+use Rattle.bridge.specs.Scripts.{Script, core_at}
+use Rattle.bridge.specs.States.{Cell, State, put}
+use Rattle.bus.specs.Turns.{Meaning, Joined, Granted}
 use Rattle.tasks.specs.declared.limit.Limit.{Limit}
-use Rattle.tasks.specs.declared.task.Row.{Row}
-use Rattle.bridge.proofs.Cells.{put_at, put_off, put_all, at, at_some, Fits, Later, later_same, fits_started, fits_fetching, fits_executing, fits_executed, fits_returning, fits_returned, later_started, later_fetching, later_executing, later_executed, later_returning, later_returned}
-use Rattle.bridge.proofs.Past.{FitsAt, Past, New, Begun, Goes, sight, past_more}
-use Rattle.bridge.proofs.Bus.{On, Cores, Bus, lone, bus_join, bus_grant, bus_done, grant_kept, grant_alone}
+use Rattle.bridge.proofs.Cells.{put_at, put_off, put_all, at, at_some, Later, later_same, fits_started, fits_fetching, fits_executing, fits_executed, fits_returning, fits_returned, later_started, later_fetching, later_executing, later_executed, later_returning, later_returned}
+use Rattle.bridge.proofs.Past.{FitsAt, Past, New, Begun, Goes, past_more}
+use Rattle.bridge.proofs.Bus.{On, Cores, Bus, bus_join, bus_grant, bus_done, grant_kept, grant_alone}
 
 pub record Inv (P : Plan) (Z : Script) (lim : ℕ → ℕ → Limit) (S : State) (m : Meaning) : Type 0 where
   pub fits : (k : ℕ) → k < Z.size → FitsAt P Z S.now k (S.cell k)

@@ -1,22 +1,20 @@
 -- What a moment does to every job: it goes on, and nothing that was due is still due.
-use Rattle.std.proofs.Common.{◌≡◌, ℕ, zero, suc, ◌+◌, ◌*◌, ◌<◌, ◌≤◌, Bool, true, false, cond, ◌&&◌, ◌||◌, eqb, ltb, leb, ◌⊎◌, List, [], ◌∷◌, Some, None, Option, sym, refl, ap, ◌∙◌, subst, inl, inr, arith}
-use Rattle.std.proofs.lemmas.Bool.{cases_eq, cases_lt, both_ways, cond_both, and_parts, and_from, ltb-true, leb-true, eqb-true, eqb-false, lt-ltb, le-ltb, le-leb, lt-leb, eq-eqb, ne_eqb, and_right}
-use Rattle.argument.specs.Logs.{Turn, A, R}
+use Rattle.std.proofs.Common.{◌≡◌, ℕ, zero, suc, ◌<◌, ◌≤◌, Bool, cond, ◌&&◌, eqb, ◌⊎◌, List, ◌∷◌, Some, None, Option, sym, refl, ap, ◌∙◌, subst, inl, inr, arith}
+use Rattle.std.proofs.lemmas.Bool.{cases_eq, both_ways, cond_both, and_parts, and_from, eqb-true, eqb-false, eq-eqb}
 use Rattle.argument.specs.Plans.{Plan, SoundPlan}
-use Rattle.argument.specs.Sums.{sum, on, any}
+use Rattle.argument.specs.Sums.{any}
 use Rattle.bridge.proofs.Allowed.{Allowed}
 use Rattle.bridge.proofs.Cells.{phase}
 use Rattle.bridge.proofs.Kept.{Keeps}
-use Rattle.bridge.specs.Moments.{started, fetching, executing, executed, returning, returned, end_a, end_r, finish_at, finishes, first, join_a, join_r, begin_at, act_at, acts, serving, waits_now, grant_a, grant_r, grant_at, granting, moment}
-use Rattle.bridge.specs.Scripts.{Script, task_at, core_at}
+use Rattle.bridge.specs.Moments.{started, fetching, executing, executed, returning, returned, end_a, end_r, finish_at, finishes, first, join_r, begin_at, act_at, acts, serving, waits_now, grant_a, grant_r, grant_at, granting, moment}
+use Rattle.bridge.specs.Scripts.{Script}
 use Rattle.bridge.specs.States.{Cell, State, put}
 use Rattle.bus.specs.Courses.{Event, joins, grants, ends}
-use Rattle.bus.specs.Turns.{Meaning, Idle}
-use Rattle.tasks.specs.declared.task.Row.{Row}
-use Rattle.bridge.proofs.Cells.{put_at, put_off, put_all, at, at_some, Fits}
-use Rattle.bridge.proofs.Moves.{Inv, Good}
+use Rattle.bus.specs.Turns.{Meaning}
+use Rattle.bridge.proofs.Cells.{put_at, put_off, put_all, at_some}
+use Rattle.bridge.proofs.Moves.{Good}
 use Rattle.bridge.proofs.Left.{left, left_started, left_fetching, left_executing, left_executed, left_returning, left_returned}
-use Rattle.bridge.proofs.Steps.{Ready, ready_parts, FirstOf, first_of, asked, fine_acts, fine_finishes}
+use Rattle.bridge.proofs.Steps.{ready_parts, FirstOf, first_of, asked, fine_acts, fine_finishes}
 
 -- ---- cells grow
 

@@ -1,7 +1,7 @@
 -- What is true of all the moments before now, and why it stays true.
-use Rattle.std.proofs.Common.{◌≡◌, ℕ, zero, suc, ◌+◌, ◌*◌, ◌<◌, ◌≤◌, Bool, true, false, cond, ◌&&◌, eqb, ltb, leb, ◌⊎◌, sym, refl, ap, ◌∙◌, subst, inl, inr, arith}
-use Rattle.std.proofs.lemmas.Bool.{cases_eq, cases_lt, eq-eqb, ne_eqb, and_parts, and_from, ltb-true, lt-ltb}
-use Rattle.argument.specs.Logs.{Job, Turn, A, R, joined, granted, ended}
+use Rattle.std.proofs.Common.{◌≡◌, ℕ, ◌+◌, ◌<◌, ◌≤◌, true, ◌&&◌, eqb, ltb, ◌⊎◌, sym, inl, inr, arith}
+use Rattle.std.proofs.lemmas.Bool.{cases_lt, and_parts, ltb-true, lt-ltb}
+use Rattle.argument.specs.Logs.{Turn, A, R, joined, granted, ended}
 use Rattle.argument.specs.Plans.{Plan}
 use Rattle.argument.specs.Sums.{sum, on}
 use Rattle.bridge.proofs.Cells.{phase}
@@ -10,9 +10,8 @@ use Rattle.bridge.specs.States.{Cell, job_of}
 use Rattle.tasks.specs.Limits.{Within}
 use Rattle.tasks.specs.declared.limit.Limit.{Limit}
 use Rattle.tasks.specs.declared.limit.Limit.TheVariants.{Phases, Unlimited}
-use Rattle.tasks.specs.declared.task.Row.{Row}
 use Rattle.bridge.proofs.Sums.{sum_le, on_mono, on_imp}
-use Rattle.bridge.proofs.Cells.{at, at_some, Fits, Later, joined_same, joined_new, granted_same, granted_new, ended_same, granted_now}
+use Rattle.bridge.proofs.Cells.{at, Fits, Later, joined_same, joined_new, granted_same, granted_new, ended_same, granted_now}
 
 abbrev pub FitsAt : Plan → Script → ℕ → ℕ → Cell → Type 0
 FitsAt P Z now k x = Fits now (Z.row k).release (task_at P Z k).a (task_at P Z k).e (task_at P Z k).r x

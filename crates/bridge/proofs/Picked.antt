@@ -1,16 +1,16 @@
 -- On an arbiter that leaves no choice, the grants are the only ones.
-use Rattle.std.proofs.Common.{◌≡◌, ℕ, zero, suc, ◌+◌, Bool, cond, ◌&&◌, eqb, ◌⊎◌, List, [], ◌∷◌, length, get_or, Some, None, Option, sym, refl, ap, ◌∙◌, subst, inl, inr, arith}
+use Rattle.std.proofs.Common.{◌≡◌, ℕ, zero, suc, ◌+◌, cond, ◌&&◌, eqb, List, [], ◌∷◌, get_or, Some, None, Option, sym, refl, ap, ◌∙◌, subst, arith}
 use Rattle.std.proofs.lemmas.Bool.{cond_both}
 use Rattle.argument.specs.Plans.{Plan}
 use Rattle.bus.specs.Means.{Means}
 use Rattle.bus.specs.Courses.{Event, joins, grants, ends, Course}
 use Rattle.bridge.specs.Scripts.{Script}
 use Rattle.bridge.specs.States.{State}
-use Rattle.bridge.specs.Moments.{end_a, end_r, finish_at, finishes, first, join_r, begin_at, act_at, acts, grant_a, grant_r, grant_at, granting, moment}
-use Rattle.bridge.specs.Runs.{tick, run, grants_of}
+use Rattle.bridge.specs.Moments.{end_a, end_r, finish_at, finishes, first, join_r, begin_at, act_at, acts, grant_a, grant_r, grant_at, moment}
+use Rattle.bridge.specs.Runs.{tick, run}
 use Rattle.bridge.specs.Promises.{Picks, PickedGrantsAreTheOnlyOnes}
 use Rattle.bridge.proofs.Cells.{phase}
-use Rattle.bridge.proofs.Single.{Before, Choice, nobody, somebody, choice, many}
+use Rattle.bridge.proofs.Single.{Before, nobody, somebody, choice, many}
 
 -- the events of the second are those of the first and more
 pub data Extends (es : List Event) : List Event → Type 0 where

@@ -1,9 +1,9 @@
 -- Every job of every run ends within its window.
-use Rattle.std.proofs.Common.{◌≡◌, ℕ, ◌<◌, ◌≤◌, List, sym, refl, ◌∙◌, subst, arith}
+use Rattle.std.proofs.Common.{◌≡◌, ℕ, subst, arith}
 use Rattle.tasks.specs.declared.limit.Limit.{Limit}
 use Rattle.tasks.specs.Limits.{Within}
 use Rattle.argument.specs.Plans.{Plan, SoundPlan}
-use Rattle.argument.specs.Logs.{Log, core_of, met, Possible, possible_moments, spaced_releases, one_at_a_time, no_idling, right_choice, never_free, limits_kept, KeepsTheLaws}
+use Rattle.argument.specs.Logs.{Log, core_of, met, possible_moments, spaced_releases, one_at_a_time, no_idling, right_choice, never_free, limits_kept, KeepsTheLaws}
 use Rattle.argument.proofs.Instance.{in_time}
 use Rattle.bus.specs.Turns.{Meaning}
 use Rattle.bus.specs.Means.{Means, Laws}

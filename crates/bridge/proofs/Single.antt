@@ -1,12 +1,11 @@
 -- The arbiter's grants fix the log.
-use Rattle.std.proofs.Common.{◌≡◌, ℕ, zero, suc, ◌+◌, ◌-◌, ◌<◌, ◌≤◌, Bool, true, false, cond, ◌&&◌, eqb, ◌⊎◌, List, [], ◌∷◌, length, get_or, Some, None, Option, sym, refl, ap, ◌∙◌, subst, inl, inr, arith}
+use Rattle.std.proofs.Common.{◌≡◌, ℕ, zero, suc, ◌+◌, ◌-◌, ◌<◌, ◌≤◌, cond, ◌&&◌, eqb, List, [], ◌∷◌, length, get_or, Some, None, Option, sym, refl, ap, ◌∙◌, subst, inl, inr, arith}
 use Rattle.std.proofs.lemmas.Bool.{cases_eq, cases_lt, cases_Bool, cond_both, cond-true, cond-false}
 use Rattle.argument.specs.Sums.{any}
 use Rattle.argument.specs.Plans.{Plan, SoundPlan}
-use Rattle.argument.specs.Logs.{Job}
 use Rattle.bus.specs.Turns.{Meaning, Idle}
 use Rattle.bridge.specs.Scripts.{Script}
-use Rattle.bridge.specs.Stages.{number, over}
+use Rattle.bridge.specs.Stages.{number}
 use Rattle.bridge.specs.States.{Cell, State, job_of, log_of, Complete}
 use Rattle.bridge.specs.Moments.{end_a, end_r, finish_at, finishes, first, join_r, begin_at, act_at, acts, serving, waits_now, grant_a, grant_r, grant_at, granting, moment}
 use Rattle.bridge.specs.Runs.{tick, run, grants_of}
@@ -14,7 +13,7 @@ use Rattle.bridge.specs.Promises.{AllowedRun, TheLogIsSingle}
 use Rattle.bridge.proofs.Allowed.{Allowed, allowed}
 use Rattle.bridge.proofs.Kept.{Keeps, keeps}
 use Rattle.bridge.proofs.Cells.{phase}
-use Rattle.bridge.proofs.Onward.{Grows, grows_same, grows_on, After, after_moment}
+use Rattle.bridge.proofs.Onward.{Grows, grows_same, grows_on, after_moment}
 use Rattle.bridge.proofs.Ticks.{good_run}
 
 -- ---- only a grant adds to the grants

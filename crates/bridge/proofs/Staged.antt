@@ -1,6 +1,6 @@
 -- A stage by its number.
 use Rattle.std.proofs.Common.{◌≡◌, ℕ, zero, suc, sym, refl, ap, ◌∙◌}
-use Rattle.argument.specs.Logs.{Turn, A, R}
+use Rattle.argument.specs.Logs.{A, R}
 use Rattle.bridge.specs.Stages.{Stage, unstarted, waiting, in_A, in_E, in_R, over, number}
 
 abbrev stage_at : ℕ → Stage

@@ -1,24 +1,21 @@
 -- The steps of a moment, and the way to the next.
-use Rattle.std.proofs.Common.{◌≡◌, ℕ, zero, suc, ◌+◌, ◌*◌, ◌<◌, ◌≤◌, min, Bool, true, false, cond, ◌&&◌, ◌||◌, eqb, ltb, leb, ◌⊎◌, List, [], ◌∷◌, Some, None, Option, sym, refl, ap, ◌∙◌, subst, inl, inr, arith}
-use Rattle.std.proofs.lemmas.Bool.{cases_eq, cases_lt, cases_Bool, both_ways, cond_both, and_parts, and_from, or_cases, or_parts, or_left, or_right, ltb-true, ltb-false, leb-true, leb-false, eqb-true, eqb-false, lt-ltb, le-ltb, le-leb, eq-eqb, ne_eqb, and_cases}
-use Rattle.argument.specs.Logs.{Job, Turn, A, R, joined, granted, ended}
+use Rattle.std.proofs.Common.{◌≡◌, ℕ, zero, suc, ◌<◌, ◌≤◌, Bool, true, false, cond, ◌&&◌, eqb, ltb, leb, ◌⊎◌, ◌∷◌, Some, None, Option, sym, refl, ap, ◌∙◌, subst, inl, inr, arith}
+use Rattle.std.proofs.lemmas.Bool.{cases_eq, cases_lt, both_ways, cond_both, and_parts, and_from, or_cases, or_parts, or_left, or_right, ltb-true, ltb-false, leb-true, leb-false, eqb-true, eqb-false, le-leb, eq-eqb, and_cases}
+use Rattle.argument.specs.Logs.{Turn, A, R, joined, granted, ended}
 use Rattle.argument.specs.Plans.{Plan, SoundPlan}
 use Rattle.argument.specs.Sums.{any}
 use Rattle.bridge.proofs.Allowed.{Allowed}
 use Rattle.bridge.proofs.Cells.{phase}
-use Rattle.bridge.proofs.Due.{due, next, moved_to, NextOf, next_of, due_release, due_a, due_e, due_r, due_after}
+use Rattle.bridge.proofs.Due.{due, moved_to, due_release, due_a, due_e, due_r}
 use Rattle.bridge.proofs.Kept.{Keeps}
-use Rattle.bridge.specs.Moments.{started, fetching, executing, executed, returning, returned, end_a, end_r, finish_at, finishes, ready, ahead, better, first, join_a, join_r, begin_at, act_at, acts, serving, waits_now, grant_a, grant_r, grant_at, granting, moment}
+use Rattle.bridge.specs.Moments.{started, fetching, executed, returning, end_a, end_r, finish_at, finishes, ready, ahead, better, first, join_r, begin_at, act_at, acts, serving, waits_now, grant_a, grant_r, grant_at, granting, moment}
 use Rattle.bridge.specs.Scripts.{Script, task_at, core_at}
 use Rattle.bridge.specs.States.{Cell, State, job_of, put}
-use Rattle.bus.specs.Courses.{Event, joins, grants, ends}
-use Rattle.bus.specs.Turns.{Meaning, Joined, Granted, Done}
-use Rattle.tasks.specs.Limits.{Within}
-use Rattle.tasks.specs.declared.limit.Limit.{Limit}
-use Rattle.tasks.specs.declared.task.Row.{Row}
-use Rattle.bridge.proofs.Cells.{put_at, put_off, at, at_some, Fits, fits_on, granted_now, serves_now, joined_now}
-use Rattle.bridge.proofs.Past.{FitsAt, Past, Begun, Held, Carry, Goes}
-use Rattle.bridge.proofs.Bus.{On, Cores, Bus, Waits, lone}
+use Rattle.bus.specs.Courses.{grants}
+use Rattle.bus.specs.Turns.{Meaning, Granted}
+use Rattle.bridge.proofs.Cells.{put_at, put_off, at, at_some, fits_on, granted_now}
+use Rattle.bridge.proofs.Past.{Begun, Held, Carry}
+use Rattle.bridge.proofs.Bus.{Cores, lone}
 use Rattle.bridge.proofs.Moves.{Inv, Good, Chosen, good_end_a, good_end_r, good_join_a, good_join_r, good_grant_a, good_grant_r}
 
 -- ---- some index passes

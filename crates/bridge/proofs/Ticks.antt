@@ -1,19 +1,18 @@
 -- From one moment to the next tick: what is due comes later, and the run stays good.
-use Rattle.std.proofs.Common.{◌≡◌, ℕ, zero, suc, ◌+◌, ◌<◌, ◌≤◌, ◌⊎◌, List, [], ◌∷◌, length, get_or, Some, None, Option, sym, refl, ap, ◌∙◌, subst, inl, inr, arith}
+use Rattle.std.proofs.Common.{◌≡◌, ℕ, zero, suc, ◌<◌, ◌≤◌, List, length, get_or, Some, refl, subst, inl, inr, arith}
 use Rattle.std.proofs.lemmas.Bool.{cases_eq, both_ways}
 use Rattle.argument.specs.Plans.{Plan, SoundPlan}
-use Rattle.argument.specs.Logs.{Turn, A, R}
+use Rattle.argument.specs.Logs.{Turn}
 use Rattle.bus.specs.Turns.{Meaning, Idle}
 use Rattle.bridge.specs.Scripts.{Script, task_at, core_at}
 use Rattle.bridge.specs.States.{State, begun}
 use Rattle.bridge.specs.Moments.{moment}
 use Rattle.bridge.specs.Runs.{tick, run, grants_of}
 use Rattle.bridge.proofs.Allowed.{Allowed}
-use Rattle.bridge.proofs.Kept.{Keeps}
 use Rattle.bridge.proofs.Cells.{phase, at, at_some, fits_blank}
 use Rattle.bridge.proofs.Moves.{Inv, Good}
-use Rattle.bridge.proofs.Due.{due, Asks, for_release, for_a, for_e, for_r, due_asks}
-use Rattle.bridge.proofs.Steps.{Settled, settled_moment, on_inv}
+use Rattle.bridge.proofs.Due.{due, for_release, for_a, for_e, for_r, due_asks}
+use Rattle.bridge.proofs.Steps.{settled_moment, on_inv}
 use Rattle.bridge.proofs.Onward.{After, after_moment}
 
 module _ (P : Plan) (Z : Script) (sound : SoundPlan P) (ok : Allowed P Z) (m₀ : Meaning) where

@@ -1,6 +1,6 @@
 -- What a program that drives an arbiter has to know: no call is refused where the run makes it, and a grant is the run's.
-use Rattle.std.proofs.Common.{◌≡◌, ℕ, zero, suc, ◌+◌, ◌<◌, ◌≤◌, Bool, true, false, cond, ◌||◌, eqb, ◌⊎◌, Some, None, Option, sym, refl, ap, ◌∙◌, subst, inl, inr, arith}
-use Rattle.std.proofs.lemmas.Bool.{cases_eq, cases_Bool, both_ways, cond-true, cond-false, or_left, or_right, or_cases, eq-eqb, eqb-true, ne_eqb}
+use Rattle.std.proofs.Common.{◌≡◌, ℕ, suc, ◌<◌, ◌≤◌, Bool, true, false, eqb, Some, None, Option, sym, refl, ap, ◌∙◌, inl, inr, arith}
+use Rattle.std.proofs.lemmas.Bool.{cases_Bool, both_ways, cond-true, cond-false, or_left, or_right, or_cases, eq-eqb, eqb-true}
 use Rattle.argument.specs.Logs.{Turn, A, R}
 use Rattle.argument.specs.Plans.{Plan, SoundPlan}
 use Rattle.argument.specs.Sums.{any}
@@ -8,12 +8,10 @@ use Rattle.bridge.proofs.Allowed.{Allowed}
 use Rattle.bridge.proofs.Cells.{phase}
 use Rattle.bridge.specs.Moments.{serving, waits_now, grant_at, granting}
 use Rattle.bridge.specs.Scripts.{Script, core_at}
-use Rattle.bridge.specs.States.{Cell, State}
+use Rattle.bridge.specs.States.{State}
 use Rattle.bus.specs.Turns.{Meaning, Granted}
 use Rattle.tasks.specs.declared.limit.Limit.{Limit}
-use Rattle.tasks.specs.declared.task.Row.{Row}
 use Rattle.bridge.proofs.Cells.{at, at_some}
-use Rattle.bridge.proofs.Bus.{On, Cores, Bus, lone}
 use Rattle.bridge.proofs.Moves.{Inv}
 use Rattle.bridge.proofs.Steps.{any_true, any_false}
 

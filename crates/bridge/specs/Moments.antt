@@ -1,12 +1,12 @@
 -- What happens at a moment: four steps, in this order. Assumes nothing.
 -- The second, that jobs released at this moment become ready, changes no state: a job is ready from its release on, until it is started.
-use Rattle.std.specs.Prelude.{ℕ, zero, suc, ◌+◌, Bool, true, false, cond, ◌&&◌, ◌||◌, List, ◌∷◌, Some, None, Option, ◌==◌, nat_le, nat_lt}
+use Rattle.std.specs.Prelude.{ℕ, zero, suc, ◌+◌, Bool, false, cond, ◌&&◌, ◌||◌, ◌∷◌, Some, None, Option, ◌==◌, nat_le, nat_lt}
 use Rattle.argument.specs.Sums.{any}
 use Rattle.argument.specs.Plans.{Plan}
-use Rattle.argument.specs.Logs.{Turn, A, R}
-use Rattle.bus.specs.Courses.{Event, joins, grants, ends}
+use Rattle.argument.specs.Logs.{A, R}
+use Rattle.bus.specs.Courses.{joins, grants, ends}
 use Rattle.bridge.specs.Scripts.{Script, task_at, core_at}
-use Rattle.bridge.specs.Stages.{Stage, unstarted, waiting, in_A, in_E, in_R, over, is}
+use Rattle.bridge.specs.Stages.{unstarted, waiting, in_A, in_E, in_R, over, is}
 use Rattle.bridge.specs.States.{Cell, State, put}
 
 -- ---- what becomes of a job

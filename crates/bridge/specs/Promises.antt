@@ -1,8 +1,8 @@
 -- What is proved of every run: each statement here stands on the contract of a public function of this crate. Assumes nothing.
-use Rattle.std.specs.Prelude.{◌≡◌, ℕ, ◌<◌, ◌≤◌, ◌⊎◌, List, Some, ◌≢◌}
+use Rattle.std.specs.Prelude.{◌≡◌, ℕ, ◌<◌, ◌≤◌, ◌⊎◌, List, ◌≢◌}
 use Rattle.tasks.specs.declared.limit.Limit.{Limit}
 use Rattle.argument.specs.Plans.{Plan, SoundPlan}
-use Rattle.argument.specs.Logs.{Log, Turn, A, R, granted, ended, KeepsTheLaws, EndsWithin}
+use Rattle.argument.specs.Logs.{Log, Turn, granted, ended, KeepsTheLaws, EndsWithin}
 use Rattle.argument.specs.Theorems.{AllCovered}
 use Rattle.bus.specs.Turns.{Meaning, Idle}
 use Rattle.bus.specs.Means.{Means}

@@ -1,5 +1,5 @@
 -- A run: the four steps at every moment, one tick after the other. Assumes nothing.
-use Rattle.std.specs.Prelude.{◌≡◌, ℕ, zero, suc, ◌+◌, ◌<◌, ◌≤◌, List, [], ◌∷◌, length, slice_index}
+use Rattle.std.specs.Prelude.{ℕ, zero, suc, List, [], ◌∷◌, length, slice_index}
 use Rattle.argument.specs.Plans.{Plan}
 use Rattle.bus.specs.Courses.{Event, joins, grants, ends}
 use Rattle.bridge.specs.Scripts.{Script}

@@ -1,12 +1,12 @@
 -- No course lets a port wait past its limits. Assumes nothing.
-use Rattle.std.proofs.Common.{◌≡◌, ℕ, ◌+◌, ◌<◌, ◌≤◌, Bool, true, false, cond, eqb, ◌⊎◌, List, [], ◌∷◌, sym, refl, ap, ◌∙◌, subst, inl, inr, arith}
+use Rattle.std.proofs.Common.{◌≡◌, ℕ, ◌+◌, true, List, sym, refl, ap, ◌∙◌, subst, inl, inr, arith}
 use Rattle.std.proofs.lemmas.Bool.{cases_eq, both_ways, eq-eqb, ne_eqb}
 use Rattle.tasks.specs.declared.limit.Limit.{Limit}
 use Rattle.tasks.specs.declared.limit.Limit.TheVariants.{Phases, Unlimited}
 use Rattle.tasks.specs.Limits.{AtMost, more}
-use Rattle.bus.specs.Turns.{Meaning, SameBus, Joined, Granted, Done, with_served}
+use Rattle.bus.specs.Turns.{Meaning, SameBus, with_served}
 use Rattle.bus.specs.Means.{Means, Laws, LimitOf}
-use Rattle.bus.specs.Courses.{Event, joins, grants, ends, Course, RuleCourse, phases, NoTurnsPassALimit, EveryCourseKeepsTheTurnRule, NoWaitIsLonger}
+use Rattle.bus.specs.Courses.{Event, Course, RuleCourse, phases, NoTurnsPassALimit, EveryCourseKeepsTheTurnRule, NoWaitIsLonger}
 use Rattle.bus.proofs.AtMost.{at_most_trans}
 use Rattle.bus.proofs.Served.{served_mono}
 

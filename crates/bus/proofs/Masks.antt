@@ -1,9 +1,9 @@
 -- A mask digit by digit: what `|`, `^`, `&`, a rotation and a count of trailing zeros do to it. Assumes nothing.
-use Rattle.std.proofs.Common.{◌≡◌, ℕ, zero, suc, ◌+◌, ◌-◌, ◌*◌, ◌/◌, ◌%◌, ◌^◌, ◌<◌, ◌≤◌, max, Bool, true, false, cond, eqb, ◌≢◌, ◌⊎◌, sym, refl, ap, ◌∙◌, subst, inl, inr, mul_assoc, mul_comm, add_comm, one-mul, pow-suc, zero-add, zero-mul, mul-one, add-one, one-add, arith, pow_mono}
-use native.Mathlib.Nat.{div_self, div-eq_of_lt}
-use lib.Bits.{bit_and, bit_or, bit_xor, differ, shifted_even, and_high}
+use Rattle.std.proofs.Common.{◌≡◌, ℕ, zero, suc, ◌+◌, ◌-◌, ◌*◌, ◌/◌, ◌%◌, ◌^◌, ◌<◌, ◌≤◌, max, true, false, eqb, ◌⊎◌, sym, refl, ap, ◌∙◌, inl, inr, mul_assoc, one-mul, pow-suc, zero-mul, mul-one, add-one, one-add, arith, pow_mono}
+use native.Mathlib.Nat.{div-eq_of_lt}
+use lib.Bits.{bit_and, bit_or, bit_xor, shifted_even, and_high}
 use lib.Count.{count_trailing_zeros, under}
-use Rattle.std.proofs.lemmas.Nat.{pow_pos, pow-add, shl-shr, shr-shr, field_of, mod-pow-add, mod-mul-add, or_shr, or_mod, xor_shr, xor_mod, pow_below, one_shl, trailing_le, or_lt, shr_le}
+use Rattle.std.proofs.lemmas.Nat.{pow_pos, pow-add, shl-shr, shr-shr, field_of, mod-pow-add, mod-mul-add, or_shr, or_mod, xor_shr, xor_mod, pow_below, or_lt, shr_le}
 use Rattle.std.proofs.lemmas.Bool.{cases_order, cases_lt, cases_eq, cases_Bool, eq-eqb, ne_eqb, eqb-true, eqb-false}
 use Rattle.bus.specs.Masks.{digit, has}
 

@@ -1,5 +1,5 @@
 -- What rules each refusal out, for callers who know that theirs cannot be refused. Assumes nothing.
-use Rattle.std.proofs.Common.{◌≡◌, ℕ, ◌<◌, ◌≤◌, Bool, true, false, ◌⊎◌, Some, None, sym, refl, ap, ◌∙◌, inl, inr, arith}
+use Rattle.std.proofs.Common.{◌≡◌, ℕ, ◌<◌, true, false, Some, None, inl, inr, arith}
 use Rattle.std.proofs.lemmas.Bool.{both_ways}
 use Rattle.tasks.specs.declared.refusal.Refusal.{Refusal}
 use Rattle.bus.specs.Turns.{Meaning}

@@ -3,7 +3,7 @@ use Rattle.std.specs.Prelude.{◌≡◌, ℕ, ◌<◌, ◌≤◌, true, false, �
 use Rattle.tasks.specs.declared.limit.Limit.{Limit}
 use Rattle.tasks.specs.declared.refusal.Refusal.{Refusal}
 use Rattle.tasks.specs.Refusals.{told, refusal}
-use Rattle.bus.specs.Turns.{Meaning, Idle, Wanted, Serving, Sound, Joined, Granted, Done}
+use Rattle.bus.specs.Turns.{Meaning, Wanted, Serving, Sound, Joined, Granted, Done}
 
 -- How an arbiter with values X tells of itself. The accounts of its steps may say more than the turn rule: which port is granted, in which order.
 pub record Means (X : Type 0) : Type 1 where

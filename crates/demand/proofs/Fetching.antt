@@ -1,5 +1,5 @@
 -- One row more is fetched: its task, and its two offers at their places.
-use Rattle.std.proofs.Common.{◌≡◌, ℕ, ◌+◌, ◌<◌, true, false, cond, List, [], ◌∷◌, ◌++◌, map, length, take, Ordering, sym, refl, ap, ◌∙◌, inl, inr, add-one, arith}
+use Rattle.std.proofs.Common.{◌≡◌, ℕ, ◌+◌, ◌<◌, List, [], ◌∷◌, ◌++◌, map, length, take, sym, refl, ap, ◌∙◌, inl, inr, add-one}
 use Rattle.std.proofs.lemmas.List.{take_more, map-append}
 use Rattle.std.proofs.lemmas.Bool.{cases_Bool}
 use Rattle.std.specs.Ordering.{is_lt}
@@ -9,7 +9,7 @@ use Rattle.tasks.specs.declared.task.Task.{Task}
 use Rattle.tasks.specs.Rows.{no_row}
 use Rattle.demand.specs.declared.offer.Offer.{Offer}
 use Rattle.demand.specs.declared.offer.Phase.TheVariants.{A, R}
-use Rattle.demand.specs.Offers.{Listed, listed, listing, keeping, offer_cmp, kept}
+use Rattle.demand.specs.Offers.{listed, listing, keeping, offer_cmp, kept}
 use Rattle.demand.specs.Rows.{rows_of, row_at}
 
 pub tasks_more : (rows : List Row) (i : ℕ) (tasks later : List Task) (task : Task) → i < length rows → task.row ≡ row_at rows i

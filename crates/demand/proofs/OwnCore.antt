@@ -4,8 +4,8 @@ use Rattle.std.proofs.lemmas.List.{get_or-map, length-map}
 use Rattle.tasks.specs.declared.task.Row.{Row}
 use Rattle.tasks.specs.declared.task.Task.{Task}
 use Rattle.tasks.specs.Rows.{no_row, cost}
-use Rattle.argument.specs.Sums.{sum, greatest, any, on, ceil}
-use Rattle.argument.specs.Plans.{level, lower}
+use Rattle.argument.specs.Sums.{sum, greatest, any, on}
+use Rattle.argument.specs.Plans.{lower}
 use Rattle.argument.specs.Demand.{jobs}
 use Rattle.demand.specs.Rows.{rows_of}
 

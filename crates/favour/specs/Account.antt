@@ -1,5 +1,5 @@
 -- A favour's account of itself: one port before all others, over the account of the arbiter below. Assumes nothing.
-use Rattle.std.specs.Prelude.{◌≡◌, ℕ, ◌<◌, Bool, true, false, cond, ◌⊎◌, Some, None, Option, ◌==◌, ◌≢◌}
+use Rattle.std.specs.Prelude.{◌≡◌, ℕ, ◌<◌, true, false, cond, ◌⊎◌, Some, None, Option, ◌==◌, ◌≢◌}
 use Rattle.tasks.specs.declared.limit.Limit.TheVariants.{Phases, Unlimited}
 use Rattle.bus.specs.Turns.{Meaning}
 use Rattle.bus.specs.Means.{Means}

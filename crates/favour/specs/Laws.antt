@@ -1,7 +1,7 @@
 -- The laws of a favour, from those of any arbiter below. Assumes nothing.
-use Rattle.std.specs.Prelude.{◌≡◌, ℕ, true, false, ◌⊎◌, Some, None, refl}
-use Rattle.std.proofs.Common.{sym, ap, subst, ◌∙◌, inl, inr}
-use Rattle.bus.specs.Turns.{Meaning, Joined, Granted, Done}
+use Rattle.std.specs.Prelude.{ℕ, None}
+use Rattle.std.proofs.Common.{sym, subst, inl, inr}
+use Rattle.bus.specs.Turns.{Joined, Granted, Done}
 use Rattle.bus.specs.Means.{Means, Laws}
 use Rattle.favour.specs.declared.Own.{Own}
 use Rattle.favour.specs.declared.Favour.{Favour}

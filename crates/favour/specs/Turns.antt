@@ -1,5 +1,5 @@
 -- A favour keeps the turn rule if the arbiter below does, meaning by meaning. Assumes nothing.
-use Rattle.std.specs.Prelude.{◌≡◌, ℕ, ◌+◌, ◌<◌, ◌≤◌, Bool, true, false, cond, ◌⊎◌, Some, None, Option, ◌==◌, ◌≢◌, refl}
+use Rattle.std.specs.Prelude.{◌≡◌, ℕ, Bool, true, false, cond, Some, None, Option, ◌==◌, ◌≢◌, refl}
 use Rattle.std.proofs.Common.{sym, ap, subst, ◌∙◌, inl, inr, arith}
 use Rattle.std.proofs.lemmas.Bool.{cases_eq, both_ways, eq-eqb, ne_eqb}
 use Rattle.tasks.specs.declared.limit.Limit.{Limit}
@@ -9,7 +9,7 @@ use Rattle.bus.specs.Turns.{Meaning, Sound, Proper, Joined, Granted, Done}
 use Rattle.bus.proofs.AtMost.{at_most_self}
 use Rattle.bus.proofs.Served.{served_fits, served_more, served_less}
 use Rattle.favour.specs.declared.Own.{Own}
-use Rattle.favour.specs.Account.{favour_meaning, heard_of, Agrees, OwnJoins, OwnGrants, Notes}
+use Rattle.favour.specs.Account.{favour_meaning, Agrees, OwnJoins, OwnGrants, Notes}
 
 -- the stills of a favour, over those below: u says that the second port is the favoured one, v that the first is
 over_kept : (u v : Bool) (w z : Bool) (x y : Limit) → cond v w z ≡ true → (z ≡ true → AtMost x y) → AtMost (cond u Unlimited (cond v (Phases 0) x)) (cond u Unlimited (cond v (Phases 0) y))

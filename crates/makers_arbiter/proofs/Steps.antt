@@ -1,12 +1,12 @@
 -- What the code does to the two masks. Assumes nothing.
-use Rattle.std.proofs.Common.{◌≡◌, ℕ, ◌+◌, ◌*◌, ◌%◌, ◌^◌, ◌<◌, ◌≤◌, Bool, true, false, ◌||◌, ◌⊎◌, Some, None, Option, sym, refl, ap, ◌∙◌, subst, inl, inr, arith}
+use Rattle.std.proofs.Common.{◌≡◌, ℕ, ◌*◌, ◌%◌, ◌^◌, ◌<◌, ◌≤◌, Bool, true, false, ◌||◌, Some, Option, sym, refl, ap, ◌∙◌, subst, inl, inr, arith}
 use lib.Bits.{bit_or, bit_xor}
 use lib.Count.{count_trailing_zeros}
 use Rattle.std.proofs.lemmas.Nat.{pow_below, or_lt, xor_lt, one_shl}
 use Rattle.std.proofs.lemmas.Bool.{cases_eq, cases_lt, both_ways}
 use Rattle.bus.specs.Masks.{has}
 use Rattle.bus.specs.Turns.{Wanted}
-use Rattle.bus.proofs.Masks.{pow_le, one_has, has_one, has_below, has_or_same, has_or_other, has_some, has_xor_same, has_xor_other, trailing_digit, trailing_below, trailing_lt}
+use Rattle.bus.proofs.Masks.{pow_le, one_has, has_one, has_below, has_or_other, has_some, has_xor_same, has_xor_other, trailing_digit, trailing_below, trailing_lt}
 use Rattle.makers_arbiter.specs.declared.Batches.{Batches}
 use Rattle.makers_arbiter.specs.Turnover.{in_either, opened, behind}
 use Rattle.makers_arbiter.specs.Account.{batch_meaning}

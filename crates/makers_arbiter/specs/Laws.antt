@@ -1,11 +1,10 @@
 -- The batches keep the turn rule. Assumes nothing.
-use Rattle.std.specs.Prelude.{◌≡◌, ℕ, ◌+◌, ◌^◌, ◌<◌, ◌≤◌, Bool, true, false, cond, ◌||◌, ◌⊎◌, Some, None, ◌≢◌, nat_lt, refl}
+use Rattle.std.specs.Prelude.{◌≡◌, ℕ, ◌+◌, ◌^◌, ◌<◌, ◌≤◌, Bool, true, false, ◌||◌, ◌≢◌, nat_lt, refl}
 use Rattle.std.proofs.Common.{sym, ap, subst, ◌∙◌, inl, inr, arith}
-use Rattle.std.specs.Int.Bits.{bit_or, bit_xor}
 use Rattle.std.proofs.lemmas.Bool.{cases_eq, cases_Bool, both_ways, lt-ltb}
 use Rattle.tasks.specs.declared.limit.Limit.TheVariants.{Phases}
 use Rattle.bus.specs.Masks.{has}
-use Rattle.bus.specs.Turns.{Meaning, Sound, Joined, Granted, Done}
+use Rattle.bus.specs.Turns.{Sound, Joined, Granted, Done}
 use Rattle.bus.specs.Means.{Laws}
 use Rattle.bus.proofs.Served.{served_fits}
 use Rattle.bus.proofs.Masks.{has_below, has_or_same, has_or_other, has_xor_same, has_xor_other}

@@ -1,12 +1,12 @@
 -- What a grant serves from: the batch, or those who joined where the batch is empty. Assumes nothing.
-use Rattle.std.specs.Prelude.{◌≡◌, ℕ, ◌+◌, ◌^◌, ◌<◌, ◌≤◌, Bool, true, false, cond, ◌&&◌, ◌||◌, ◌⊎◌, nat_lt, refl}
-use Rattle.std.proofs.Common.{sym, ap, subst, ◌∙◌, inl, inr, arith}
-use Rattle.std.proofs.lemmas.Bool.{cases_eq, both_ways, eq-eqb, ne_eqb, cond-true, cond-false}
+use Rattle.std.specs.Prelude.{◌≡◌, ℕ, ◌+◌, ◌^◌, ◌<◌, ◌≤◌, Bool, true, false, ◌||◌, nat_lt, refl}
+use Rattle.std.proofs.Common.{sym, ap, ◌∙◌, inl, inr, arith}
+use Rattle.std.proofs.lemmas.Bool.{cases_eq, both_ways, eq-eqb, ne_eqb}
 use Rattle.bus.specs.Masks.{has}
 use Rattle.bus.proofs.Masks.{has_none}
 use Rattle.makers_arbiter.specs.declared.Batches.{Batches}
 use Rattle.makers_arbiter.specs.Turnover.{in_either, opened, behind}
-use Rattle.makers_arbiter.specs.Account.{one, turns_before, still_before}
+use Rattle.makers_arbiter.specs.Account.{turns_before, still_before}
 
 -- ---- how often b may come before a
 

@@ -1,5 +1,5 @@
 -- The queue's account of itself: ports in a line, the first is granted and the last joins. Assumes nothing.
-use Rattle.std.specs.Prelude.{◌≡◌, ℕ, ◌+◌, ◌<◌, false, List, [], ◌∷◌, ◌++◌, take, Some, None}
+use Rattle.std.specs.Prelude.{◌≡◌, ℕ, ◌<◌, false, List, [], ◌∷◌, ◌++◌, take, Some, None}
 use Rattle.tasks.specs.declared.limit.Limit.TheVariants.{Phases}
 use Rattle.bus.specs.Turns.{Meaning, Serving}
 use Rattle.bus.specs.Means.{Means}

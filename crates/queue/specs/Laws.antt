@@ -1,9 +1,9 @@
 -- The queue keeps the turn rule. Assumes nothing.
-use Rattle.std.specs.Prelude.{◌≡◌, ℕ, ◌+◌, ◌<◌, ◌≤◌, Bool, true, false, cond, ◌⊎◌, List, [], ◌∷◌, ◌++◌, Some, None, ◌==◌, refl}
-use Rattle.std.proofs.Common.{sym, ap, subst, ◌∙◌, inl, inr, arith}
+use Rattle.std.specs.Prelude.{◌≡◌, ℕ, ◌≤◌, Bool, true, false, cond, List, [], ◌∷◌, ◌++◌, ◌==◌, refl}
+use Rattle.std.proofs.Common.{sym, ap, subst, ◌∙◌, arith}
 use Rattle.std.proofs.lemmas.Bool.{both_ways, eq-eqb, ne_eqb}
 use Rattle.tasks.specs.declared.limit.Limit.TheVariants.{Phases}
-use Rattle.bus.specs.Turns.{Meaning, Sound, Joined, Granted, Done}
+use Rattle.bus.specs.Turns.{Sound, Joined, Granted, Done}
 use Rattle.bus.specs.Means.{Laws}
 use Rattle.bus.proofs.Served.{served_fits}
 use Rattle.queue.specs.declared.Queue.{Queue}

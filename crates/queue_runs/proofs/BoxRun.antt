@@ -1,17 +1,16 @@
 -- The run of the three-task box on the queue computes.
-use Rattle.std.proofs.Common.{◌≡◌, ℕ, zero, suc, ◌+◌, ◌-◌, ◌<◌, ◌≤◌, List, [], ◌∷◌, sym, refl, ap, ◌∙◌, subst, arith}
-use Rattle.argument.specs.Logs.{Job}
+use Rattle.std.proofs.Common.{◌≡◌, ℕ, zero, suc, ◌-◌, ◌<◌, ◌≤◌, List, [], ◌∷◌, sym, refl, ap, ◌∙◌, subst, arith}
 use Rattle.argument.specs.Samples.{box, first_jobs}
-use Rattle.bus.specs.Courses.{Event, joins, grants, ends, Course}
+use Rattle.bus.specs.Courses.{Event, joins, grants, ends}
 use Rattle.bus.specs.Courses.{RuleCourse}
 use Rattle.bus.proofs.Courses.{keeps_rule}
 use Rattle.queue.specs.Account.{queue_means, queue_meaning}
 use Rattle.queue.specs.Laws.{queue_laws}
 use Rattle.argument.specs.Plans.{SoundPlan}
 use Rattle.argument.proofs.Checks.{sound_plan}
-use Rattle.bridge.specs.Scripts.{Script, LawfulRow, LawfulScript}
+use Rattle.bridge.specs.Scripts.{LawfulRow, LawfulScript}
 use Rattle.bridge.specs.Stages.{over, number}
-use Rattle.bridge.specs.States.{State, Cell, job_of, log_of, Complete}
+use Rattle.bridge.specs.States.{State, job_of, log_of, Complete}
 use Rattle.bridge.specs.Runs.{run}
 use Rattle.bridge.proofs.Allowed.{allowed}
 use Rattle.bridge.proofs.Kept.{keeps}

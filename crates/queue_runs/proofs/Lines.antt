@@ -1,11 +1,10 @@
 -- The queue's line after a course.
-use Rattle.std.proofs.Common.{◌≡◌, ℕ, true, false, List, [], ◌∷◌, ◌++◌, sym, refl, ap, ◌∙◌, subst}
+use Rattle.std.proofs.Common.{◌≡◌, ℕ, false, List, [], ◌∷◌, ◌++◌, sym, refl, ap, ◌∙◌}
 use Rattle.std.proofs.lemmas.Bool.{both_ways, eq-eqb}
-use Rattle.bus.specs.Turns.{Idle}
-use Rattle.bus.specs.Courses.{Event, joins, grants, ends, Course}
+use Rattle.bus.specs.Courses.{Event, Course}
 use Rattle.queue.specs.declared.Queue.{Queue}
 use Rattle.queue.specs.Lines.{among}
-use Rattle.queue.specs.Account.{line, queue_means, queue_meaning}
+use Rattle.queue.specs.Account.{line, queue_means}
 use Rattle.bridge.proofs.Picked.{the_only_ones}
 use Rattle.queue_runs.specs.Queued.{behind, front, line_after, TheQueueLeavesNoChoice, AScriptHasOneRunOnTheQueue}
 

@@ -1,6 +1,5 @@
 -- The box with three tasks on the queue: all three released at 0 in the order 1, 2, 3, with full lengths. Assumes nothing.
 use Rattle.std.specs.Prelude.{◌≡◌, ℕ, ◌<◌, ◌≤◌, List}
-use Rattle.argument.specs.Logs.{Log}
 use Rattle.argument.specs.Samples.{box, first_jobs}
 use Rattle.bus.specs.Turns.{Idle}
 use Rattle.bus.specs.Courses.{Course}

@@ -1,5 +1,5 @@
 -- Round robin's account of itself: ports in a ring, the first that waits is granted, counted upward from the one after the last granted. Assumes nothing.
-use Rattle.std.specs.Prelude.{◌≡◌, ℕ, ◌+◌, ◌^◌, ◌<◌, ◌≤◌, Bool, true, false, cond, Some, None, bit_or, bit_xor, nat_lt}
+use Rattle.std.specs.Prelude.{◌≡◌, ℕ, ◌+◌, ◌^◌, ◌<◌, ◌≤◌, true, false, cond, Some, None, bit_or, bit_xor, nat_lt}
 use Rattle.tasks.specs.declared.limit.Limit.TheVariants.{Phases}
 use Rattle.bus.specs.Masks.{has}
 use Rattle.bus.specs.Turns.{Meaning, Serving}

@@ -1,16 +1,14 @@
 -- Round robin keeps the turn rule. Assumes nothing.
-use Rattle.std.specs.Prelude.{◌≡◌, ℕ, ◌+◌, ◌^◌, ◌<◌, ◌≤◌, Bool, true, false, cond, Some, None, ◌≢◌, refl}
-use Rattle.std.proofs.Common.{sym, ap, subst, ◌∙◌, arith}
-use Rattle.std.specs.Int.Bits.{bit_or, bit_xor}
+use Rattle.std.specs.Prelude.{◌≡◌, ℕ, ◌<◌, ◌≤◌, true, false, ◌≢◌, refl}
+use Rattle.std.proofs.Common.{sym, ap, ◌∙◌, arith}
 use Rattle.std.proofs.lemmas.Bool.{both_ways}
 use Rattle.tasks.specs.declared.limit.Limit.TheVariants.{Phases}
 use Rattle.bus.specs.Masks.{has}
-use Rattle.bus.specs.Turns.{Meaning, Sound, Joined, Granted, Done}
+use Rattle.bus.specs.Turns.{Sound, Joined, Granted, Done}
 use Rattle.bus.specs.Means.{Laws}
 use Rattle.bus.proofs.Served.{served_fits}
 use Rattle.bus.proofs.Masks.{has_below, has_or_same, has_or_other, has_xor_same, has_xor_other}
 use Rattle.round_robin.specs.declared.RoundRobin.{RoundRobin}
-use Rattle.round_robin.specs.Rings.{place}
 use Rattle.round_robin.specs.Account.{round_meaning, round_means, RoundJoins, RoundGrants, RoundEnds}
 use Rattle.round_robin.specs.Ring.{turns, turns_le, turns_served, turns_falls, turns_kept}
 

@@ -1,5 +1,5 @@
 -- An accepted edit leaves rows that a plan may hold.
-use Rattle.std.proofs.Common.{◌≡◌, ℕ, ◌+◌, ◌-◌, ◌<◌, ◌≤◌, Bool, true, false, cond, not, ◌&&◌, ◌||◌, eqb, ltb, leb, ◌≢◌, List, [], ◌∷◌, ◌++◌, length, get_or, set, is_some, Some, None, Ok, Option, sym, refl, ap, ◌∙◌, inl, inr, arith}
+use Rattle.std.proofs.Common.{◌≡◌, ℕ, ◌+◌, ◌<◌, ◌≤◌, true, false, ltb, leb, ◌≢◌, List, [], ◌∷◌, length, get_or, set, is_some, Some, None, Ok, Option, sym, refl, ◌∙◌, inl, inr, arith}
 use Rattle.std.proofs.lemmas.List.{get_or_append_left, get_or_push, get_or-set_same, get_or-set_other, length_push, length-set}
 use Rattle.std.proofs.lemmas.Bool.{true≢false, leb-false, lt-ltb, and_from, cases_eq, cases_lt, cases_order}
 use Rattle.std.proofs.lemmas.Bool.Decides.{nat_tests}
@@ -8,7 +8,7 @@ use Rattle.tasks.specs.Refusals.{refusal}
 use Rattle.tasks.specs.Rows.{no_row, bounded}
 use Rattle.tasks.proofs.Verdicts.{past, through, accepted_is_bounded}
 use Rattle.rules.specs.Rules.{place_of, known, clash, clashes, add_verdict, change_verdict, with_row, is_task_of, apart, EachATask, AllApart}
-use Rattle.rules.proofs.Found.{place_found, place_absent, clash_absent}
+use Rattle.rules.proofs.Found.{place_absent, clash_absent}
 
 -- two rows that do not clash, with two ids, go together, whichever stands first
 apart_after : (old new : Row) → clash new old ≡ false → (old.id ≡ new.id → ⊥) → apart old new ≡ true

@@ -1,23 +1,22 @@
 -- The beginning and the end of a run.
-use Rattle.std.proofs.Common.{◌≡◌, ℕ, zero, suc, ◌+◌, ◌^◌, ◌<◌, ◌≤◌, Bool, true, false, ◌&&◌, eqb, ltb, ◌⊎◌, List, [], ◌∷◌, ◌++◌, length, get_or, take, drop, Some, None, Option, sym, refl, ap, ◌∙◌, subst, inl, inr, arith}
-use Rattle.std.proofs.lemmas.List.{get_or-take, get_or_past, get_or_append_left, length-take, take_at, drop_at}
+use Rattle.std.proofs.Common.{◌≡◌, ℕ, ◌<◌, ◌≤◌, true, ◌&&◌, eqb, ltb, List, [], ◌++◌, length, get_or, take, drop, Some, None, Option, sym, refl, ap, ◌∙◌, subst, inl, inr, arith}
+use Rattle.std.proofs.lemmas.List.{get_or-take, get_or_past, get_or_append_left, length-take, drop_at}
 use Rattle.std.proofs.lemmas.Bool.{cases_lt, cases_Bool, and_left, le-ltb}
 use Rattle.tasks.specs.declared.task.Row.{Row}
 use Rattle.tasks.specs.Rows.{no_row, bounded}
 use Rattle.tasks.proofs.Verdicts.{accepted_is_bounded}
-use Rattle.argument.specs.Sums.{on}
 use Rattle.argument.specs.Plans.{plan_of, SoundPlan}
 use Rattle.bus.specs.Turns.{Meaning, Idle as Quiet}
 use Rattle.bus.specs.Means.{Means, Laws}
 use Rattle.bus.specs.Courses.{Course}
 use Rattle.bus.proofs.Courses.{keeps_rule}
-use Rattle.bridge.specs.Scripts.{LawfulRow, LawfulScript}
+use Rattle.bridge.specs.Scripts.{LawfulScript}
 use Rattle.bridge.specs.Stages.{number}
-use Rattle.bridge.specs.States.{State, job_of, begun, blank, Complete}
+use Rattle.bridge.specs.States.{State, begun, Complete}
 use Rattle.bridge.specs.Runs.{run}
 use Rattle.bridge.proofs.Allowed.{allowed}
 use Rattle.bridge.proofs.Kept.{keeps}
-use Rattle.bridge.proofs.Cells.{phase, at, at_some}
+use Rattle.bridge.proofs.Cells.{phase, at_some}
 use Rattle.bridge.proofs.Sums.{on_false}
 use Rattle.bridge.proofs.Moves.{Inv}
 use Rattle.bridge.proofs.Ticks.{good_run}
@@ -28,9 +27,9 @@ use Rattle.runs.specs.declared.ready.Ready.{Ready}
 use Rattle.runs.specs.declared.stage.Stage.{Stage}
 use Rattle.runs.specs.declared.stage.Stage.TheVariants.{Idle}
 use Rattle.runs.specs.Machine.{job, none, Inside}
-use Rattle.runs.specs.Pool.{Pool, Pooled, RowsBelow}
-use Rattle.runs.specs.Shown.{no_job, script_of, shown, Fetched, Shows, At, Ran, AllInside, Short, after}
-use Rattle.runner.specs.Lookups.{no_script, task_of, job_for, jobs_for, script_for}
+use Rattle.runs.specs.Pool.{Pooled, RowsBelow}
+use Rattle.runs.specs.Shown.{no_job, script_of, Fetched, At, Ran, AllInside, Short, after}
+use Rattle.runner.specs.Lookups.{jobs_for, script_for}
 use Rattle.runner.specs.Outcomes.{opened, Free, Accepted}
 use Rattle.runner.proofs.Looking.{job_at, jobs_long}
 

@@ -2,7 +2,7 @@
 use Rattle.std.specs.Prelude.{◌≡◌, ℕ, ◌<◌, ◌≤◌, ◌⊎◌, List, [], ◌∷◌, length, drop, ◌≢◌}
 use Rattle.tasks.specs.declared.task.Row.{Row}
 use Rattle.tasks.specs.declared.refusal.Refusal.{Refusal}
-use Rattle.tasks.specs.Refusals.{Told, numbered, told, refusal}
+use Rattle.tasks.specs.Refusals.{numbered, told, refusal}
 use Rattle.argument.specs.Plans.{plan_of}
 use Rattle.bus.specs.Turns.{Idle, Busy}
 use Rattle.bus.specs.Means.{Means}

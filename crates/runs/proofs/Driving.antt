@@ -1,29 +1,28 @@
 -- From moment to moment.
-use Rattle.std.proofs.Common.{◌≡◌, ℕ, zero, suc, ◌+◌, ◌-◌, ◌*◌, ◌^◌, ◌<◌, ◌≤◌, Bool, true, false, cond, ◌⊎◌, List, [], ◌∷◌, length, get_or, Some, None, Option, sym, refl, ap, ◌∙◌, subst, inl, inr, arith}
-use Rattle.std.proofs.lemmas.Bool.{cases_eq, cases_lt, eqb-true, lt-ltb, le-ltb, cond-true}
-use Rattle.argument.specs.Plans.{Plan, SoundPlan}
-use Rattle.bus.specs.Turns.{Meaning}
+use Rattle.std.proofs.Common.{◌≡◌, ℕ, suc, ◌+◌, ◌*◌, ◌^◌, ◌<◌, ◌≤◌, ◌⊎◌, List, [], length, get_or, Some, None, Option, sym, refl, ap, ◌∙◌, subst, inl, inr, arith}
+use Rattle.std.proofs.lemmas.Bool.{cases_eq, cases_lt, eqb-true, lt-ltb, le-ltb}
+use Rattle.argument.specs.Plans.{Plan}
 use Rattle.bus.specs.Means.{Means, Laws}
 use Rattle.bus.specs.Courses.{Course}
 use Rattle.bus.proofs.Courses.{keeps_rule}
 use Rattle.bridge.specs.Scripts.{Script, core_at}
 use Rattle.bridge.specs.Stages as Stages
-use Rattle.bridge.specs.States.{Cell, State, job_of, begun, blank, Complete}
-use Rattle.bridge.specs.Moments.{finishes, acts, granting, moment}
-use Rattle.bridge.specs.Runs.{tick, run, at_moment, grants_of}
+use Rattle.bridge.specs.States.{State, job_of, begun, blank, Complete}
+use Rattle.bridge.specs.Moments.{finishes, acts, moment}
+use Rattle.bridge.specs.Runs.{run, at_moment, grants_of}
 use Rattle.bridge.specs.Promises.{AllowedRun, Quiet}
 use Rattle.bridge.proofs.Allowed.{Allowed, allowed}
 use Rattle.bridge.proofs.Kept.{Keeps, keeps}
 use Rattle.bridge.proofs.Sums.{sum_most}
 use Rattle.bridge.proofs.Cells.{phase}
 use Rattle.bridge.proofs.Moves.{Inv, Good}
-use Rattle.bridge.proofs.Due.{due, NextOf, Asks, for_release, for_a, for_e, for_r, due_asks, due_a, due_e, due_r}
+use Rattle.bridge.proofs.Due.{due, for_release, for_a, for_e, for_r, due_asks, due_a, due_e, due_r}
 use Rattle.bridge.proofs.Steps.{Settled, settled_moment}
 use Rattle.bridge.proofs.Left.{left, left_0}
 use Rattle.bridge.proofs.Onward.{After, after_moment}
 use Rattle.bridge.proofs.Ticks.{core_below, due_later, good_run}
 use Rattle.bridge.proofs.Ending.{AllOver, complete_from, total_left, ended, claim}
-use Rattle.bridge.proofs.Jumps.{time_may_jump, now_moment, now_run}
+use Rattle.bridge.proofs.Jumps.{time_may_jump}
 use Rattle.bridge.proofs.Single.{many}
 use Rattle.runs.specs.declared.rows.Job.{Job}
 use Rattle.runs.specs.declared.rows.LogRow.{LogRow}
@@ -33,10 +32,10 @@ use Rattle.runs.specs.declared.stage.Stage.{Stage}
 use Rattle.runs.specs.declared.stage.Stage.TheVariants.{Idle, Waiting, A, E, R}
 use Rattle.runs.specs.Machine.{job, number, none, due_of}
 use Rattle.runs.specs.Pool.{Pool, Pooled, RowsBelow}
-use Rattle.runs.specs.Soonest.{release_of, soonest}
+use Rattle.runs.specs.Soonest.{release_of}
 use Rattle.runs.specs.Shown.{script_of, no_job, shown, Shows, At, Granting, Ran, AllInside, AllReleased, Short, after}
-use Rattle.runs.proofs.Going.{at_ok, at_good, at_stands, at_keeps, at_inv}
-use Rattle.runs.proofs.Soon.{Least, Nothing, SoonOf, soon_of}
+use Rattle.runs.proofs.Going.{at_stands, at_inv}
+use Rattle.runs.proofs.Soon.{Least, Nothing}
 use Rattle.runs.proofs.Extending.{Extended, extended}
 
 abbrev pub most : ℕ

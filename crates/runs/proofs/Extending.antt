@@ -1,12 +1,12 @@
 -- One more choice: the run so far stays, and the next moment grants it.
-use Rattle.std.proofs.Common.{◌≡◌, ℕ, zero, suc, ◌+◌, ◌<◌, ◌≤◌, List, [], ◌∷◌, ◌++◌, length, get_or, sym, refl, ap, ◌∙◌, subst, arith}
+use Rattle.std.proofs.Common.{◌≡◌, ℕ, suc, List, [], ◌∷◌, ◌++◌, length, get_or, sym, refl, ap, ◌∙◌, arith}
 use Rattle.std.proofs.lemmas.List.{get_or_append_left}
 use Rattle.argument.specs.Plans.{Plan}
 use Rattle.bridge.specs.Scripts.{Script}
 use Rattle.bridge.specs.States.{State}
 use Rattle.bridge.specs.Moments.{moment}
 use Rattle.bridge.specs.Runs.{tick, run, grants_of}
-use Rattle.bridge.proofs.Single.{G, Before, Choice, nobody, somebody, choice, many, agree, grants_before, grants_grant}
+use Rattle.bridge.proofs.Single.{G, Before, nobody, somebody, choice, many, agree, grants_before, grants_grant}
 
 at_end : (xs : List ℕ) (p : ℕ) → get_or (xs ++ (p ∷ [])) (length xs) 0 ≡ p
 at_end [] p = refl

@@ -1,5 +1,5 @@
 -- An arbiter's course, and what it gives of the state that was reached.
-use Rattle.std.proofs.Common.{◌≡◌, ℕ, List, length, sym, refl, ap, ◌∙◌, subst}
+use Rattle.std.proofs.Common.{◌≡◌, ℕ, List, length, refl, ◌∙◌}
 use Rattle.argument.specs.Plans.{Plan, SoundPlan}
 use Rattle.bus.specs.Turns.{Meaning, Idle}
 use Rattle.bus.specs.Means.{Means, Laws}

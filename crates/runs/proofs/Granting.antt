@@ -1,36 +1,30 @@
 -- Step 4.
-use Rattle.std.proofs.Common.{◌≡◌, ℕ, zero, suc, ◌+◌, ◌<◌, ◌≤◌, Bool, true, false, cond, not, ◌&&◌, eqb, ◌⊎◌, List, [], ◌∷◌, length, get_or, set, Some, None, Option, sym, refl, ap, ◌∙◌, subst, inl, inr, add-one, arith, length-set}
-use Rattle.std.proofs.lemmas.List.{get_or-set_same, get_or-set_other}
-use Rattle.std.proofs.lemmas.Bool.{cases_eq, both_ways, eq-eqb, ne_eqb, eqb-true, eqb-false, cond-true, cond-false, and_from, and_left, and_right}
+use Rattle.std.proofs.Common.{◌≡◌, ℕ, ◌<◌, eqb, ◌⊎◌, List, ◌∷◌, length, get_or, set, Some, sym, refl, ap, ◌∙◌, subst, inl, inr, arith}
+use Rattle.std.proofs.lemmas.Bool.{eq-eqb, ne_eqb, cond-true, cond-false}
 use Rattle.tasks.specs.declared.refusal.Refusal.{Refusal}
 use Rattle.argument.specs.Plans.{Plan}
-use Rattle.argument.specs.Logs as Logs
 use Rattle.bus.specs.Turns.{Meaning}
 use Rattle.bus.specs.Turns as Bus
-use Rattle.bus.specs.Means.{Means, Laws, JoinRefused, GrantRefused, DoneRefused}
-use Rattle.bus.specs.Courses.{Event, joins, grants, ends, Course}
-use Rattle.bus.proofs.Refused.{join_sure, done_sure}
-use Rattle.bridge.specs.Scripts.{Script, core_at}
-use Rattle.bridge.specs.States.{Cell, State, put, job_of}
-use Rattle.bridge.specs.Moments.{started, executed, executing, returned, fetching, returning, end_a, end_r, finish_at, finishes, join_a, join_r, begin_at, act_at, acts, first, grant_a, grant_r, grant_at, granting}
-use Rattle.bridge.proofs.Cells.{phase, put_at, put_off, at, at_some}
-use Rattle.bridge.proofs.Bus.{Cores}
+use Rattle.bus.specs.Means.{Means, Laws, GrantRefused}
+use Rattle.bus.specs.Courses.{grants, Course}
+use Rattle.bridge.specs.States.{State, job_of}
+use Rattle.bridge.specs.Moments.{fetching, returning, grant_a, grant_r, grant_at, granting}
+use Rattle.bridge.proofs.Cells.{phase, at, at_some}
 use Rattle.bridge.proofs.Moves.{Inv}
-use Rattle.bridge.proofs.Steps.{first_of, FirstOf, Ready, ready_parts, asked}
-use Rattle.bridge.proofs.Ties.{may_join, may_end, granted_is, nobody_waits, in_service_lem}
+use Rattle.bridge.proofs.Steps.{asked}
+use Rattle.bridge.proofs.Ties.{granted_is, nobody_waits, in_service_lem}
 use Rattle.runs.specs.declared.rows.Job.{Job}
 use Rattle.runs.specs.declared.rows.LogRow.{LogRow}
 use Rattle.runs.specs.declared.stage.Turn.{Turn}
 use Rattle.runs.specs.declared.stage.Turn.TheVariants.{First, Last}
 use Rattle.runs.specs.declared.stage.Stage.{Stage}
 use Rattle.runs.specs.declared.stage.Stage.TheVariants.{Idle, Waiting, A, E, R}
-use Rattle.runs.specs.declared.stage.Event.TheVariants.{Start, Granted, Ended}
-use Rattle.runs.specs.Machine as Machine
-use Rattle.runs.specs.Machine.{job, number, none, leaves, onward, Inside, free, served}
-use Rattle.runs.specs.Pool.{Pool, Pooled}
-use Rattle.runs.specs.Shown.{Shows, At, Granting, AllInside, script_of, shown, no_job, Reached, finishing, acting}
-use Rattle.runs.proofs.Going.{at_ok, at_good, at_keeps, at_stands, at_inv, at_on}
-use Rattle.runs.proofs.Showing.{shows_on, rows_same, rows_set, inside_set, inside_on, inside_granted}
+use Rattle.runs.specs.declared.stage.Event.TheVariants.{Granted}
+use Rattle.runs.specs.Machine.{job, number, none, onward, served}
+use Rattle.runs.specs.Pool.{Pool}
+use Rattle.runs.specs.Shown.{Shows, At, Granting, script_of, shown, no_job}
+use Rattle.runs.proofs.Going.{at_ok, at_good, at_keeps, at_stands, at_inv}
+use Rattle.runs.proofs.Showing.{shows_on, rows_set}
 use Rattle.runs.proofs.Pools.{pool_on}
 
 module _ {X : Type 0} (B : Means X) (laws : Laws B) (P : Plan) (J : List Job) (x y : X) (time : ℕ) (stages : List Stage) (marks : Pool) (log : List LogRow) (S : State)

@@ -1,5 +1,5 @@
 -- Where the first of a core stands, and the insertion of one more.
-use Rattle.std.proofs.Common.{◌≡◌, ℕ, zero, suc, ◌+◌, ◌<◌, ◌≤◌, Bool, true, false, cond, ◌&&◌, eqb, ltb, ◌⊎◌, List, [], ◌∷◌, length, get_or, drop, Some, None, Option, sym, refl, ap, ◌∙◌, subst, inl, inr, add-one, arith}
+use Rattle.std.proofs.Common.{◌≡◌, ℕ, suc, ◌+◌, ◌<◌, ◌≤◌, true, ◌&&◌, eqb, ltb, List, [], ◌∷◌, length, get_or, drop, Some, None, sym, refl, ap, ◌∙◌, subst, inl, inr, arith}
 use Rattle.std.proofs.lemmas.List.{at_drop_more, at_drop_all}
 use Rattle.std.proofs.lemmas.Bool.{cases_eq, cases_lt, cases_Bool, eq-eqb, ne_eqb, and_from, and_left, lt-ltb, le-ltb}
 use Rattle.std.specs.List.{remove}
@@ -13,7 +13,7 @@ use Rattle.bridge.proofs.Sums.{on_true, on_false}
 use Rattle.bridge.proofs.Cells.{phase}
 use Rattle.runs.specs.declared.rows.Job.{Job}
 use Rattle.runs.specs.declared.ready.Ready.{Ready}
-use Rattle.runs.specs.Pool.{place, chosen, without, count, RowsBelow, Keyed, AllKeyed, Pool, Pooled, ready_cmp}
+use Rattle.runs.specs.Pool.{place, chosen, without, count, RowsBelow, Keyed, AllKeyed, Pooled, ready_cmp}
 use Rattle.runs.specs.Shown.{script_of, no_job, Fetched, AllReleased}
 use Rattle.runs.proofs.Pools.{unchosen}
 

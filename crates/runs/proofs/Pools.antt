@@ -1,6 +1,6 @@
 -- The ready jobs in the roster: which goes first, and what is left.
-use Rattle.std.proofs.Common.{◌≡◌, ℕ, zero, suc, ◌+◌, ◌<◌, ◌≤◌, Bool, true, false, cond, not, ◌&&◌, eqb, ltb, leb, ◌⊎◌, List, [], ◌∷◌, Some, None, Option, Less, Equal, sym, refl, ap, ◌∙◌, subst, inl, inr, arith}
-use Rattle.std.proofs.lemmas.Bool.{cases_eq, cases_lt, cases_Bool, both_ways, eq-eqb, ne_eqb, eqb-true, eqb-false, and_parts, and_from, and_left, and_right, lt-ltb, le-ltb, ltb-true, not-true}
+use Rattle.std.proofs.Common.{◌≡◌, ℕ, ◌+◌, ◌<◌, ◌≤◌, Bool, true, false, not, ◌&&◌, eqb, ltb, ◌⊎◌, List, [], ◌∷◌, Some, None, Option, Less, Equal, sym, refl, ap, ◌∙◌, subst, inl, inr, arith}
+use Rattle.std.proofs.lemmas.Bool.{cases_eq, cases_lt, cases_Bool, both_ways, eq-eqb, ne_eqb, eqb-true, and_parts, and_from, and_right, lt-ltb, ltb-true, not-true}
 use Rattle.std.specs.Ordering.{is_lt, nat_cmp}
 use Rattle.std.specs.Cmp.{nat_cmp_is}
 use Rattle.roster.specs.Order.{none_less, rises}
@@ -12,7 +12,7 @@ use Rattle.argument.specs.Plans.{Plan, SoundPlan}
 use Rattle.bus.specs.Courses.{Event}
 use Rattle.bridge.specs.Scripts.{Script, task_at, core_at}
 use Rattle.bridge.specs.States.{Cell, State, put}
-use Rattle.bridge.specs.Moments.{first, ready}
+use Rattle.bridge.specs.Moments.{first}
 use Rattle.bridge.proofs.Allowed.{Allowed}
 use Rattle.bridge.proofs.Sums.{on_true, on_false}
 use Rattle.bridge.proofs.Cells.{phase, put_at, put_off}

@@ -1,5 +1,5 @@
 -- A core's stages: which job, which phase, and what an event makes of them. Assumes nothing.
-use Rattle.std.specs.Prelude.{◌≡◌, ℕ, ◌+◌, ◌<◌, Bool, true, false, cond, List, Some, None, Option, ◌==◌, slice_index_or}
+use Rattle.std.specs.Prelude.{ℕ, ◌+◌, ◌<◌, Bool, true, false, List, Some, None, Option, ◌==◌, slice_index_or}
 use Rattle.runs.specs.declared.rows.LogRow.{LogRow}
 use Rattle.runs.specs.declared.rows.Job.{Job}
 use Rattle.runs.specs.declared.stage.Turn.{Turn}

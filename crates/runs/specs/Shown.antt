@@ -1,9 +1,8 @@
 -- How the values of the program show a state of a run. Assumes nothing.
-use Rattle.std.specs.Prelude.{◌≡◌, ℕ, ◌+◌, ◌*◌, ◌^◌, ◌<◌, ◌≤◌, List, length, get_or, Some, slice_index_or}
-use Rattle.tasks.specs.declared.task.Row.{Row}
+use Rattle.std.specs.Prelude.{◌≡◌, ℕ, ◌<◌, ◌≤◌, List, length, get_or, Some, slice_index_or}
 use Rattle.argument.specs.Plans.{Plan, SoundPlan}
 use Rattle.argument.specs.Logs as Logs
-use Rattle.bus.specs.Turns.{Meaning, Idle as Quiet}
+use Rattle.bus.specs.Turns.{Idle as Quiet}
 use Rattle.bus.specs.Means.{Means}
 use Rattle.bus.specs.Courses.{Course}
 use Rattle.bridge.specs.Scripts.{Script, task_at, core_at, LawfulScript}

@@ -1,5 +1,5 @@
 -- A plan that a sheet spells is one that a plan may hold: its platform fits, and each row was accepted as an add to those before it.
-use Rattle.std.proofs.Common.{◌≡◌, ℕ, zero, suc, ◌+◌, ◌<◌, ◌≤◌, true, List, [], length, Some, None, Ok, Err, Option, Result, sym, refl, subst, arith}
+use Rattle.std.proofs.Common.{◌≡◌, ℕ, zero, suc, ◌≤◌, true, List, [], length, Some, None, Ok, Err, Option, Result, sym, refl, subst, arith}
 use Rattle.std.proofs.lemmas.List.{length_push}
 use Rattle.tasks.specs.declared.task.Row.{Row}
 use Rattle.tasks.specs.Platforms.{cores_fit, cores_verdict}

@@ -1,20 +1,20 @@
 -- A saved plan loads as itself: each record that is written is read as what it was written for.
-use Rattle.std.proofs.Common.{◌≡◌, ℕ, zero, suc, ◌+◌, ◌-◌, ◌<◌, ◌≤◌, true, false, ◌&&◌, eqb, ltb, leb, List, [], ◌∷◌, ◌++◌, length, get_or, take, drop, is_some, Some, None, Ok, Option, Result, sym, refl, ap, ◌∙◌, subst, append_assoc, append-nil, arith}
+use Rattle.std.proofs.Common.{◌≡◌, ℕ, zero, suc, ◌+◌, ◌-◌, ◌<◌, ◌≤◌, true, false, ◌&&◌, eqb, ltb, leb, List, [], ◌∷◌, ◌++◌, length, get_or, take, drop, is_some, Some, None, Ok, Result, sym, refl, ap, ◌∙◌, subst, append_assoc, append-nil, arith}
 use Rattle.std.proofs.lemmas.List.{drop_at, drop-drop, take_at, length-append, length-drop, get_or_at, get_or_append_left}
 use Rattle.std.proofs.lemmas.Bool.{le-leb, lt-leb, le-ltb, eq-eqb, ne_eqb, ltb-true, and_from, and_parts, or_from}
 use Rattle.std.proofs.lemmas.Bool.Decides.{nat_tests}
 use Rattle.tasks.specs.declared.task.Row.{Row}
-use Rattle.tasks.specs.Platforms.{line_verdict, cores_verdict}
+use Rattle.tasks.specs.Platforms.{line_verdict}
 use Rattle.tasks.specs.Refusals.{Told}
 use Rattle.tasks.specs.Rows.{no_row, bounded}
 use Rattle.tasks.proofs.Verdicts.{bounded_is_accepted}
 use Rattle.rules.specs.Rules.{place_from, known, clash, clashes, add_verdict, with_row, is_task_of, apart}
 use Rattle.sheets.specs.Bytes.{two, in_two}
-use Rattle.sheets.specs.Records.{Part, Spot, head_of, present, record_at, place_after, start_of}
+use Rattle.sheets.specs.Records.{Part, head_of, present, record_at, place_after, start_of}
 use Rattle.sheets.specs.Entries.{Held, platform, task, if_ok, held_in}
-use Rattle.sheets.specs.Spelled.{Head, Placed, Spelling, head_held, head_in, task_held, task_record, rows_from, with_rows, planned_by, headed, started}
+use Rattle.sheets.specs.Spelled.{Head, Placed, head_held, head_in, task_held, task_record, rows_from, with_rows, planned_by, headed, started}
 use Rattle.sheets.specs.Written.{platform_bytes, body_bytes, task_bytes, tasks_bytes, written}
-use Rattle.sheets.specs.Theorems.{MayStand, ASavedPlanLoadsAsItself}
+use Rattle.sheets.specs.Theorems.{ASavedPlanLoadsAsItself}
 use Rattle.sheets.proofs.Gathering.{admitted}
 use Rattle.sheets.proofs.InBytes.{two_of, row_of}
 use Rattle.sheets.proofs.Loaded.{SoundRows}

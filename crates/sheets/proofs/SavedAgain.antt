@@ -1,5 +1,5 @@
 -- A loaded sheet is saved as the same bytes: each record that was read is written as the bytes that it was read from.
-use Rattle.std.proofs.Common.{◌≡◌, ℕ, zero, suc, ◌+◌, ◌-◌, ◌<◌, ◌≤◌, Bool, true, false, cond, ◌&&◌, eqb, ltb, leb, ◌⊎◌, List, [], ◌∷◌, ◌++◌, length, get_or, take, drop, Some, None, Ok, Err, Option, Result, sym, refl, ap, ◌∙◌, subst, inl, inr, append_assoc, append-nil, arith}
+use Rattle.std.proofs.Common.{◌≡◌, ℕ, zero, suc, ◌+◌, ◌-◌, ◌<◌, ◌≤◌, Bool, true, false, cond, ◌&&◌, eqb, ltb, leb, ◌⊎◌, List, [], ◌∷◌, ◌++◌, length, get_or, take, drop, None, Ok, Err, Result, sym, refl, ap, ◌∙◌, subst, inl, inr, append_assoc, append-nil, arith}
 use native.Mathlib.Nat.{min-le_left}
 use Rattle.std.proofs.lemmas.List.{drop_more, drop_all, drop-drop, take-append-drop, length-take-le, length-take, length-drop, get_or-drop, get_or-take, get_or_past}
 use Rattle.std.proofs.lemmas.Bool.{cases_Bool, cases_lt, leb-true, leb-false, ltb-false, eqb-true, eqb-false, and_parts}
@@ -8,10 +8,10 @@ use Rattle.tasks.specs.Platforms.{line_verdict, cores_verdict}
 use Rattle.tasks.specs.Refusals.{Told, refusal}
 use Rattle.rules.specs.Rules.{add_verdict, with_row}
 use Rattle.sheets.specs.Bytes.{two, in_two}
-use Rattle.sheets.specs.Records.{Part, Spot, at, head_of, present, record_at, place_after, start_of}
+use Rattle.sheets.specs.Records.{Part, Spot, at, head_of, present, record_at, place_after}
 use Rattle.sheets.specs.Entries.{Held, platform, task, row_in, if_ok, platform_in, task_in, held_in}
-use Rattle.sheets.specs.Spelled.{Head, Placed, Mistake, Spelling, head_held, head_in, task_held, task_record, judged, grown, rows_from, with_rows, planned_by, headed, started, spelled}
-use Rattle.sheets.specs.Written.{platform_bytes, task_bytes, tasks_bytes, written}
+use Rattle.sheets.specs.Spelled.{Head, Mistake, Spelling, head_held, head_in, task_held, task_record, judged, grown, rows_from, with_rows, planned_by, headed, started}
+use Rattle.sheets.specs.Written.{platform_bytes, task_bytes, tasks_bytes}
 use Rattle.sheets.specs.Theorems.{EachAByte, ALoadedSheetIsSavedAsTheSameBytes}
 use Rattle.sheets.proofs.InBytes.{two_back, body_back}
 

@@ -1,5 +1,5 @@
 -- What a record holds: a platform (kind 1) or a task (kind 2). Assumes nothing.
-use Rattle.std.specs.Prelude.{ℕ, ◌+◌, cond, ◌&&◌, List, length, drop, Some, None, Ok, Err, Option, Result, ◌==◌, nat_le, slice_index}
+use Rattle.std.specs.Prelude.{ℕ, ◌+◌, cond, ◌&&◌, List, length, drop, Ok, Err, Result, ◌==◌, nat_le, slice_index}
 use Rattle.tasks.specs.declared.task.Row.{Row}
 use Rattle.tasks.specs.Platforms.{bottom_number, favoured, line_verdict}
 use Rattle.tasks.specs.Refusals.{Told, told, refusal}
@@ -7,7 +7,7 @@ use Rattle.sheets.specs.declared.entry.Entry.{Entry}
 use Rattle.sheets.specs.declared.entry.Entry.TheVariants.{Platform, Task}
 use Rattle.sheets.specs.declared.entry.BadRecord.{BadRecord}
 use Rattle.sheets.specs.Bytes.{two, four}
-use Rattle.sheets.specs.Records.{Part, Spot, at, record_at}
+use Rattle.sheets.specs.Records.{Part, Spot}
 
 pub data Held : Type 0 where
   -- cores, the bottom arbiter's number and the favoured ports

@@ -1,8 +1,8 @@
 -- The plan that a sheet spells, or the fault with its number, its layer and its place. Assumes nothing.
-use Rattle.std.specs.Prelude.{ℕ, zero, suc, cond, List, [], length, Some, None, Ok, Err, Option, Result}
+use Rattle.std.specs.Prelude.{ℕ, zero, suc, List, [], length, Some, None, Ok, Err, Option, Result}
 use Rattle.tasks.specs.declared.task.Row.{Row}
 use Rattle.tasks.specs.Platforms.{cores_verdict}
-use Rattle.tasks.specs.Refusals.{Told, refusal}
+use Rattle.tasks.specs.Refusals.{Told}
 use Rattle.rules.specs.Rules.{add_verdict, with_row}
 use Rattle.sheets.specs.declared.plan.Layer.{Layer}
 use Rattle.sheets.specs.declared.plan.Layer.TheVariants.{Sheet, Plan}

@@ -1,5 +1,4 @@
-use Rattle.std.proofs.Common.{◌≡◌, length, is_some, unwrap_or, sym}
-use Rattle.demand.specs.Rows.{rows_of}
+use Rattle.std.proofs.Common.{is_some, unwrap_or, sym}
 use Rattle.demand.proofs.OwnCore.{block_more, any_more, all_looked_at}
 use Rattle.demand.proofs.own.blocker.Goals as goal
 

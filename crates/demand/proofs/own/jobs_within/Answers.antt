@@ -1,4 +1,4 @@
-use Rattle.std.proofs.Common.{◌≡◌, ◌*◌, ◌≤◌, sym, ◌∙◌, arith}
+use Rattle.std.proofs.Common.{◌*◌, ◌≤◌, sym, ◌∙◌, arith}
 use Rattle.demand.proofs.OwnCore.{jobs_more, ticks_more, cost_product, all_looked_at}
 use Rattle.demand.proofs.own.jobs_within.Goals as goal
 

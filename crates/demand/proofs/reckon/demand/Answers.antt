@@ -1,7 +1,6 @@
-use Rattle.std.proofs.Common.{◌≡◌, ◌<◌, ◌≤◌, map, length, is_some, sym, ap, ◌∙◌, arith}
+use Rattle.std.proofs.Common.{◌≡◌, map, length, sym, ap, ◌∙◌, arith}
 use Rattle.std.proofs.lemmas.List.{length-map}
 use Rattle.tasks.specs.declared.task.Task.{Task}
-use Rattle.argument.specs.Sums.{on}
 use Rattle.demand.specs.Offers.{listed}
 use Rattle.demand.specs.Rows.{rows_of, row_at}
 use Rattle.demand.proofs.Keeping.{kept_length}

@@ -1,4 +1,4 @@
-use Rattle.std.proofs.Common.{◌≡◌, map, sym, ap, ◌∙◌, rules}
+use Rattle.std.proofs.Common.{map, ap, ◌∙◌}
 use Rattle.tasks.specs.Limits.{times}
 use Rattle.argument.specs.LongestFirst.{taken}
 use Rattle.demand.specs.Offers.{listed, of_core, phases_in}

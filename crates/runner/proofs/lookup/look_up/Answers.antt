@@ -1,9 +1,9 @@
-use Rattle.std.proofs.Common.{◌≡◌, ℕ, ◌+◌, ◌<◌, ◌≤◌, ◌⊎◌, length, get_or, take, vec_items, sym, refl, ap, ◌∙◌, subst, inl, inr, add-one, arith, rules}
-use Rattle.std.proofs.lemmas.Bool.{cases_lt, cases_eq}
+use Rattle.std.proofs.Common.{◌≡◌, ℕ, length, get_or, vec_items, sym, ◌∙◌, subst, inl, inr, arith, rules}
+use Rattle.std.proofs.lemmas.Bool.{cases_eq}
 use Rattle.argument.specs.Plans.{plan_of}
 use Rattle.bridge.specs.Scripts.{LawfulRow}
 use Rattle.tasks.specs.Rows.{no_row}
-use Rattle.runner.specs.Lookups.{no_script, jobs_for, script_for, AllApart}
+use Rattle.runner.specs.Lookups.{no_script, script_for, AllApart}
 use Rattle.runner.proofs.Looking.{front_all, jobs_long, unknown_row, place_below, impossible_row, close_row, lawful_row, jobs_more, some_found, some_fault}
 use Rattle.runner.proofs.lookup.look_up.Goals as goal
 

@@ -1,11 +1,9 @@
-use Rattle.std.proofs.Common.{◌≡◌, ℕ, ◌+◌, ◌<◌, ◌≤◌, length, vec_items, vec_len, vec_capacity, sym, refl, ap, ◌∙◌, subst, arith}
+use Rattle.std.proofs.Common.{◌≡◌, ◌≤◌, length, vec_items, sym, ◌∙◌, subst, arith}
 use Rattle.argument.specs.Plans.{plan_of}
-use Rattle.bridge.specs.Moments.{finishes}
-use Rattle.bridge.specs.Runs.{run}
 use Rattle.bus.specs.Means.{Means, Laws}
-use Rattle.runs.specs.Shown.{At, AllInside, script_of}
+use Rattle.runs.specs.Shown.{AllInside}
 use Rattle.runs.proofs.Soon.{SoonOf, soon_of}
-use Rattle.runs.proofs.Driving.{most, Driven, driven_first, driven_finished, driven_released, driven_stands, driven_over, driven_more, later}
+use Rattle.runs.proofs.Driving.{most, Driven, driven_first, driven_released, driven_stands, driven_over, driven_more, later}
 use Rattle.runs.proofs.drive.drive.Given.{Over}
 use Rattle.runs.proofs.drive.drive.Goals as goal
 

@@ -1,4 +1,4 @@
-use Rattle.std.proofs.Common.{◌≡◌, ◌-◌, ◌≤◌, length, vec_items, vec_len, vec_capacity}
+use Rattle.std.proofs.Common.{◌-◌, ◌≤◌, vec_items, vec_len, vec_capacity}
 use Rattle.argument.specs.Plans.{plan_of}
 use Rattle.runs.proofs.Driving.{Driven, most}
 use Rattle.runs.proofs.drive.drive.Given as goal

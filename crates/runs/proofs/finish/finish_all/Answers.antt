@@ -1,10 +1,10 @@
-use Rattle.std.proofs.Common.{◌≡◌, ℕ, ◌<◌, length, sym, refl, ap, ◌∙◌, subst, arith}
+use Rattle.std.proofs.Common.{◌≡◌, ◌<◌, length, sym, ◌∙◌, subst, arith}
 use Rattle.std.proofs.lemmas.Result.{MatchResult-from_err}
 use Rattle.bridge.specs.Moments.{finishes}
 use Rattle.bus.specs.Means.{Means}
 use Rattle.runs.specs.Shown.{At}
 use Rattle.bus.specs.Means.{Laws}
-use Rattle.runs.proofs.Finishing.{finished_inside, finished_some, finished_none, finished_sure}
+use Rattle.runs.proofs.Finishing.{finished_some, finished_none, finished_sure}
 use Rattle.runs.proofs.finish.finish_all.Given.{Over}
 use Rattle.runs.proofs.finish.finish_all.Goals.{then-leaves_bus+in_ok-done, else-leaves_bus}
 use Rattle.runs.proofs.finish.finish_all.Goals as goal

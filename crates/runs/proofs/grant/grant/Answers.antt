@@ -1,8 +1,8 @@
-use Rattle.std.proofs.Common.{◌≡◌, ℕ, ◌<◌, length, get_or, sym, refl, ap, ◌∙◌, subst, arith}
+use Rattle.std.proofs.Common.{◌<◌, length, get_or, sym, subst, arith}
 use Rattle.runs.specs.declared.stage.Stage.TheVariants.{Idle}
 use Rattle.runs.specs.Machine.{Inside}
 use Rattle.bus.specs.Means.{Means}
-use Rattle.runs.specs.Shown.{At, Granting}
+use Rattle.runs.specs.Shown.{Granting}
 use Rattle.bus.specs.Means.{Laws}
 use Rattle.runs.proofs.Showing.{inside_set, inside_granted}
 use Rattle.runs.proofs.Granting.{granted_none, granted_must, granted_at}

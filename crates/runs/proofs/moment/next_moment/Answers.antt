@@ -1,4 +1,3 @@
-use Rattle.runs.proofs.Extending
 use Rattle.runs.proofs.Soon.{soonest_more}
 use Rattle.runs.proofs.moment.next_moment.Goals as goal
 

@@ -1,4 +1,4 @@
-use Rattle.std.proofs.Common.{◌≡◌, sym, ap, ◌∙◌, arith, rules}
+use Rattle.std.proofs.Common.{arith, rules}
 use Rattle.runs.specs.declared.ready.Ready.{Ready}
 use Rattle.runs.proofs.Places.{place_here, place_more, place_all}
 use Rattle.runs.proofs.ready.place.Goals as goal

@@ -1,4 +1,4 @@
-use Rattle.std.proofs.Common.{◌≡◌, ℕ, ◌<◌, ◌≤◌, length, vec_items, sym, refl, ap, ◌∙◌, subst, arith}
+use Rattle.std.proofs.Common.{◌≡◌, length, vec_items, sym, refl, subst, arith}
 use Rattle.runs.specs.Pool.{RowsBelow, Pooled, ready_order}
 use Rattle.runs.specs.Shown.{script_of}
 use Rattle.runs.proofs.Places.{pool_insert, below_insert, released_from}

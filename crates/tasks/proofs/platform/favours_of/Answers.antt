@@ -1,4 +1,4 @@
-use Rattle.std.proofs.Common.{◌≡◌, ◌≤◌, length, sym, arith, rules}
+use Rattle.std.proofs.Common.{◌≡◌, length, sym, rules}
 use Rattle.std.proofs.lemmas.List.{nil_from_length}
 use Rattle.tasks.proofs.Spelled.{one_spelled, two_spelled}
 use Rattle.tasks.proofs.platform.favours_of.Goals as goal

@@ -1,4 +1,4 @@
-use Rattle.std.proofs.Common.{◌^◌, ◌<◌, ◌≤◌, length, decimal, refl, append-nil, arith, rules}
+use Rattle.std.proofs.Common.{◌^◌, ◌<◌, ◌≤◌, decimal, refl, append-nil, arith, rules}
 use Rattle.std.proofs.lemmas.Fmt.{length-decimal-le, decimal_nonempty}
 use Rattle.writing.proofs.Before.{shorter, turn, last}
 use Rattle.writing.proofs.digits.figures.Goals as goal

@@ -1,4 +1,4 @@
-use Rattle.std.proofs.Common.{◌≡◌, ◌++◌, vec_items, codes, decimal, sym, ap, ◌∙◌, rules}
+use Rattle.std.proofs.Common.{◌++◌, vec_items, codes, decimal, sym, ap, ◌∙◌, rules}
 use Rattle.writing.specs.Lines.{outcome_text}
 use Rattle.writing.proofs.Chains.{earlier}
 use Rattle.writing.proofs.lines.add_outcome.Goals as goal

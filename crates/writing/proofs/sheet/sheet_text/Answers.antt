@@ -1,4 +1,4 @@
-use Rattle.std.proofs.Common.{◌≡◌, [], ◌∷◌, ◌++◌, vec_items, sym, ap, ◌∙◌, arith, rules}
+use Rattle.std.proofs.Common.{◌≡◌, ◌∷◌, ◌++◌, vec_items, ap, ◌∙◌, arith, rules}
 use Rattle.tasks.specs.Platforms.{bottom_number, favoured}
 use Rattle.sheets.specs.Written.{platform_bytes, tasks_bytes}
 use Rattle.writing.proofs.Chains.{task_more, tasks_all}

@@ -1,6 +1,5 @@
-use Rattle.std.proofs.Common.{◌≡◌, ◌+◌, ◌*◌, ◌≤◌, ◌∷◌, ◌++◌, drop, vec_items, vec_len, vec_capacity}
-use Rattle.tasks.specs.Platforms.{bottom_number, favoured}
-use Rattle.sheets.specs.Written.{platform_bytes, tasks_bytes}
+use Rattle.std.proofs.Common.{◌≡◌, ◌+◌, ◌*◌, ◌≤◌, ◌++◌, drop, vec_items, vec_len, vec_capacity}
+use Rattle.sheets.specs.Written.{tasks_bytes}
 use Rattle.writing.proofs.sheet.sheet_text.Given as goal
 
 abbrev pub invariant-loop-row : goal.invariant-loop-row

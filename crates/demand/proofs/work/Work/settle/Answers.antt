@@ -1,7 +1,7 @@
-use Rattle.std.proofs.Common.{◌≡◌, length, vec_items, sym, ap, ◌∙◌, subst, arith, rules}
+use Rattle.std.proofs.Common.{◌≡◌, length, ap, ◌∙◌, arith}
 use Rattle.std.proofs.lemmas.List.{length-map}
 use Rattle.tasks.specs.declared.task.Task.{Task}
-use Rattle.demand.specs.Rows.{rows_of, row_at}
+use Rattle.demand.specs.Rows.{rows_of}
 use Rattle.demand.proofs.work.Work.settle.Goals as goal
 
 pub tell_all-requires : goal.tell_all-requires

@@ -13,7 +13,7 @@ pub invariant_of-self : goal.invariant_of-self
 invariant_of-self c =
     let s = c.args.self.now in
     let f : Facts s.ports (s.len - 1) c.rotate_left.new.self (Some (get_or s.order 0 0)) =
-        granted_facts s c.rotate_left.new.self c.if-self-eq0.false c.rotate_left.ensures.after in
+    granted_facts s c.rotate_left.new.self c.if-self-eq0.false c.rotate_left.ensures.after in
     record { some = f.some; few = f.few; size = f.size; below = f.below; once = f.once; port = f.port; gone = f.gone }
 
 pub returns : goal.returns

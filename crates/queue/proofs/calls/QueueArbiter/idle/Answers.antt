@@ -1,4 +1,4 @@
-use Rattle.std.proofs.Common.{◌≡◌, inl}
+use Rattle.std.proofs.Common.{inl}
 use Rattle.std.proofs.lemmas.Bool.{eqb-true}
 use Rattle.queue.proofs.Steps.{first_waits}
 use Rattle.queue.proofs.calls.QueueArbiter.idle.Goals as goal

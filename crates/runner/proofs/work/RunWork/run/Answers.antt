@@ -1,8 +1,7 @@
-use Rattle.std.proofs.Common.{◌≡◌, ℕ, ◌<◌, ◌≤◌, ◌⊎◌, List, ◌++◌, length, get_or, take, drop, vec_items, vec_capacity, sym, refl, ap, ◌∙◌, subst, inl, inr, arith, rules}
+use Rattle.std.proofs.Common.{◌≡◌, ℕ, ◌<◌, List, ◌++◌, length, get_or, take, drop, vec_items, sym, refl, ap, ◌∙◌, subst, inr, arith, rules}
 use Rattle.std.proofs.lemmas.List.{length-take, length-append, take_at}
 use Rattle.argument.specs.Plans.{plan_of}
 use Rattle.bridge.specs.States.{begun}
-use Rattle.bridge.specs.Scripts.{LawfulScript}
 use Rattle.bus.specs.Means.{Means, Laws}
 use Rattle.runs.specs.declared.rows.Job.{Job}
 use Rattle.runs.specs.declared.stage.Stage.TheVariants.{Idle}

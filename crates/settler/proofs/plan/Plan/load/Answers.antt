@@ -1,4 +1,4 @@
-use Rattle.std.proofs.Common.{◌≡◌, ◌≤◌, vec_items, vec_len, vec_capacity, sym, ap, subst, arith, rules}
+use Rattle.std.proofs.Common.{◌≡◌, ◌≤◌, vec_items, vec_len, vec_capacity, sym, ap, arith, rules}
 use Rattle.rules.specs.Rules.{EachATask, AllApart}
 use Rattle.sheets.proofs.Loaded.{spelled_sound}
 use Rattle.settler.proofs.plan.Plan.load.Goals as goal

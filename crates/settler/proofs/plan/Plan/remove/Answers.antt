@@ -1,4 +1,4 @@
-use Rattle.std.proofs.Common.{◌≡◌, ℕ, ◌+◌, length, Some, vec_items, sym, arith, rules}
+use Rattle.std.proofs.Common.{◌≡◌, ◌+◌, length, Some, vec_items, arith, rules}
 use Rattle.rules.specs.Rules.{place_of, EachATask, AllApart}
 use Rattle.rules.proofs.Kept.{removed_each, removed_apart}
 use Rattle.rules.proofs.Found.{place_found}

@@ -1,4 +1,4 @@
-use Rattle.std.proofs.Common.{◌≡◌, ◌+◌, ◌≤◌, Some, Ok, vec_items, sym, arith, rules}
+use Rattle.std.proofs.Common.{◌≡◌, Some, Ok, vec_items, arith, rules}
 use Rattle.sheets.specs.Records.{record_at, place_after}
 use Rattle.sheets.specs.Spelled.{Placed, task_record}
 use Rattle.sheets.proofs.Gathering.{admitted, goes_further}

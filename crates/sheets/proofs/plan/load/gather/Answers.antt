@@ -1,4 +1,4 @@
-use Rattle.std.proofs.Common.{◌≡◌, suc, ◌-◌, ◌<◌, length, Ok, vec_items, sym, refl, ap, ◌∙◌, arith, rules}
+use Rattle.std.proofs.Common.{suc, ◌-◌, length, Ok, vec_items, refl, ap, ◌∙◌, arith}
 use Rattle.sheets.specs.Records.{record_at, place_after}
 use Rattle.sheets.specs.Spelled.{rows_from}
 use Rattle.sheets.specs.Answers.{advanced}

@@ -1,4 +1,4 @@
-use Rattle.std.proofs.Common.{sym, ap, ◌∙◌, rules}
+use Rattle.std.proofs.Common.{ap, ◌∙◌, rules}
 use Rattle.sheets.specs.Records.{present}
 use Rattle.sheets.proofs.Heads.{goes_on}
 use Rattle.sheets.proofs.reader.Reader.next.Goals as goal

@@ -1,5 +1,4 @@
-use Rattle.std.proofs.Common.{◌≡◌, ◌-◌, ◌≤◌, false, ◌&&◌, eqb, leb, length, arith, rules}
-use Rattle.std.proofs.lemmas.Bool.Decides.{nat_tests}
+use Rattle.std.proofs.Common.{◌≡◌, ◌-◌, ◌≤◌, false, ◌&&◌, eqb, leb, length, rules}
 use Rattle.sheets.specs.Bytes.{two}
 use Rattle.sheets.proofs.Heads.{headed, not_empty}
 use Rattle.sheets.proofs.reader.steps.head.Goals as goal
