@@ -6,7 +6,6 @@ use Rattle.std.specs.Ordering.{nat_cmp, ordering_then}
 use Rattle.roster.specs.Order.{insert_by}
 use Rattle.tasks.specs.declared.task.Row.{Row}
 use Rattle.argument.specs.Sums.{ceil}
-use Rattle.demand.specs.contracts.offer.OfferOrd.TheImpl.{ghosts}
 use Rattle.demand.specs.contracts.offer.OfferOrd.TheImpl.Laws.{lawful}
 use Rattle.demand.specs.contracts.offer.PhaseOrd.TheImpl.{ghosts as phases}
 use Rattle.demand.specs.declared.offer.Offer.{Offer}
@@ -34,9 +33,9 @@ keeping x y =
     (ordering_then (nat_cmp x.core y.core)
     (ordering_then (nat_cmp x.spacing y.spacing) (nat_cmp x.deadline y.deadline)))))
 
--- the order of the code's offers, which is the one above of what they list, and it is total
+-- the order of the code's offers is that of what they list, and it is total
 abbrev pub offer_cmp : Offer → Offer → Ordering
-offer_cmp = ghosts.cmp
+offer_cmp x y = keeping (listed x) (listed y)
 
 pub offer_order : IsTotalOrder offer_cmp
 offer_order = lawful.total

@@ -2,19 +2,19 @@
 use Rattle.std.specs.Prelude.{◌≡◌, ℕ, suc, ◌+◌, ◌<◌, ◌≤◌, true, cond, ◌&&◌, List, [], ◌∷◌, Some, None, Option, ◌==◌, nat_lt}
 use Rattle.std.specs.declared.cmp.Ordering.{Ordering}
 use Rattle.std.specs.Cmp.{IsTotalOrder}
+use Rattle.std.specs.Ordering.{nat_cmp, ordering_then}
 use Rattle.roster.specs.Order.{rises}
 use Rattle.argument.specs.Sums.{on}
 use Rattle.argument.specs.Plans.{Plan}
 use Rattle.bridge.specs.Scripts.{Script, task_at, core_at}
 use Rattle.bridge.specs.Stages.{unstarted, is}
 use Rattle.bridge.specs.States.{State}
-use Rattle.runs.specs.contracts.ready.ReadyOrd.TheImpl.{ghosts}
 use Rattle.runs.specs.contracts.ready.ReadyOrd.TheImpl.Laws.{lawful}
 use Rattle.runs.specs.declared.ready.Ready.{Ready}
 
 -- the order in which they are kept: by core, then rank, then release, then row
 abbrev pub ready_cmp : Ready → Ready → Ordering
-ready_cmp = ghosts.cmp
+ready_cmp x y = ordering_then (nat_cmp x.core y.core) (ordering_then (nat_cmp x.rank y.rank) (ordering_then (nat_cmp x.release y.release) (nat_cmp x.row y.row)))
 
 pub ready_order : IsTotalOrder ready_cmp
 ready_order = lawful.total
