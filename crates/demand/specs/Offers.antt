@@ -1,11 +1,12 @@
 -- The phases that tasks offer, the order in which they are kept, and those of one core. Assumes nothing.
-use Rattle.std.specs.Prelude.{ℕ, zero, suc, ◌+◌, cond, List, [], ◌∷◌, ◌==◌}
+use Rattle.std.specs.Prelude.{◌≡◌, ℕ, zero, suc, ◌+◌, cond, List, [], ◌∷◌, ◌==◌, refl}
 use Rattle.std.specs.declared.cmp.Ordering.{Ordering}
 use Rattle.std.specs.Cmp.{IsTotalOrder}
 use Rattle.std.specs.Ordering.{nat_cmp, ordering_then}
 use Rattle.roster.specs.Order.{insert_by}
 use Rattle.tasks.specs.declared.task.Row.{Row}
 use Rattle.argument.specs.Sums.{ceil}
+use Rattle.demand.specs.contracts.offer.OfferOrd.TheImpl.{ghosts}
 use Rattle.demand.specs.contracts.offer.OfferOrd.TheImpl.Laws.{lawful}
 use Rattle.demand.specs.contracts.offer.PhaseOrd.TheImpl.{ghosts as phases}
 use Rattle.demand.specs.declared.offer.Offer.{Offer}
@@ -33,10 +34,14 @@ keeping x y =
     (ordering_then (nat_cmp x.core y.core)
     (ordering_then (nat_cmp x.spacing y.spacing) (nat_cmp x.deadline y.deadline)))))
 
--- the order of the code's offers is that of what they list, and it is total
+-- the order of the code's offers is that of what they list,
 abbrev pub offer_cmp : Offer → Offer → Ordering
 offer_cmp x y = keeping (listed x) (listed y)
 
+pub derived_offer_cmp : (x y : Offer) → ghosts.cmp x y ≡ offer_cmp x y
+derived_offer_cmp x y = refl
+
+-- and it is total
 pub offer_order : IsTotalOrder offer_cmp
 offer_order = lawful.total
 

@@ -1,5 +1,5 @@
 -- The ready jobs as the program keeps them. Assumes nothing.
-use Rattle.std.specs.Prelude.{◌≡◌, ℕ, suc, ◌+◌, ◌<◌, ◌≤◌, true, cond, ◌&&◌, List, [], ◌∷◌, Some, None, Option, ◌==◌, nat_lt}
+use Rattle.std.specs.Prelude.{◌≡◌, ℕ, suc, ◌+◌, ◌<◌, ◌≤◌, true, cond, ◌&&◌, List, [], ◌∷◌, Some, None, Option, ◌==◌, nat_lt, refl}
 use Rattle.std.specs.declared.cmp.Ordering.{Ordering}
 use Rattle.std.specs.Cmp.{IsTotalOrder}
 use Rattle.std.specs.Ordering.{nat_cmp, ordering_then}
@@ -9,12 +9,17 @@ use Rattle.argument.specs.Plans.{Plan}
 use Rattle.bridge.specs.Scripts.{Script, task_at, core_at}
 use Rattle.bridge.specs.Stages.{unstarted, is}
 use Rattle.bridge.specs.States.{State}
+use Rattle.runs.specs.contracts.ready.ReadyOrd.TheImpl.{ghosts}
 use Rattle.runs.specs.contracts.ready.ReadyOrd.TheImpl.Laws.{lawful}
 use Rattle.runs.specs.declared.ready.Ready.{Ready}
 
 -- the order in which they are kept: by core, then rank, then release, then row
 abbrev pub ready_cmp : Ready → Ready → Ordering
 ready_cmp x y = ordering_then (nat_cmp x.core y.core) (ordering_then (nat_cmp x.rank y.rank) (ordering_then (nat_cmp x.release y.release) (nat_cmp x.row y.row)))
+
+-- it is the one that the code derives, and it is total
+pub derived_ready_cmp : (x y : Ready) → ghosts.cmp x y ≡ ready_cmp x y
+derived_ready_cmp x y = refl
 
 pub ready_order : IsTotalOrder ready_cmp
 ready_order = lawful.total
