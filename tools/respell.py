@@ -34,8 +34,9 @@ SPECIAL = {
 MORE = (
     "J-level b-in in-t new-alone no-offer where-at allowed-run new-kept zero-length headed-by true-more "
     "possible-moments spaced-releases one-at-a-time no-idling right-choice never-free limits-kept").split()
-# lemmas that port.py gave a name that a definition takes
+# names that port.py gave for its own: one of a definition of the library, two of a definition here
 IN_FILE = {
+    "crates/argument/proofs/Cover.antt": {"field_own": "own_at"},
     "crates/queue_runs/proofs/Lines.antt": {"line_after": "line_after_lem"},
     "crates/sheets/proofs/LoadedAgain.antt": {"if_ok": "if_ok_lem"},
 }

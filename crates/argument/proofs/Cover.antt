@@ -31,8 +31,8 @@ holds plan log i t0 blocker w k y =
     && ((ltb ((log.job k).stay y).granted (t0 + w) && ltb t0 ((log.job k).stay y).ended)
     && delays plan log i t0 blocker w ((log.job k).stay y))
 
-abbrev pub field_own : Job → ℕ → ℕ
-field_own k t = on (within k.start (joins k 0) t) 1 + sum k.stays (λ x. on (within (k.stay x).granted (joins k (suc x)) t) 1)
+abbrev pub own_at : Job → ℕ → ℕ
+own_at k t = on (within k.start (joins k 0) t) 1 + sum k.stays (λ x. on (within (k.stay x).granted (joins k (suc x)) t) 1)
 
 abbrev pub service_at : Stay → ℕ → ℕ
 service_at s t = on (within s.granted s.ended t) 1
@@ -103,7 +103,7 @@ holds_from plan log i t0 blocker w k y j x h =
 
 -- what counts at the tick t: own ticks, and ticks of services
 abbrev pub owned : Plan → Log → Task → ℕ → ℕ → ℕ → ℕ → ℕ
-owned plan log i t0 blocker w t = sum log.size (λ k. on (counts plan log i t0 blocker w k) (field_own (log.job k) t))
+owned plan log i t0 blocker w t = sum log.size (λ k. on (counts plan log i t0 blocker w k) (own_at (log.job k) t))
 
 abbrev pub served : Plan → Log → Task → ℕ → ℕ → ℕ → ℕ → ℕ
 served plan log i t0 blocker w t = sum log.size (λ k. sum (log.job k).stays (λ y. on (holds plan log i t0 blocker w k y) (service_at ((log.job k).stay y) t)))
@@ -118,17 +118,17 @@ joins_end k = cond-false (ltb k.stays k.stays) (k.stay k.stays).joined k.end (le
 abbrev pub Waits : Job → ℕ → ℕ → Type 0
 Waits k t x = (x < k.stays) × ((k.stay x).joined ≤ t) × (t < (k.stay x).granted)
 
-own_first : (k : Job) (t : ℕ) → k.start ≤ t → t < joins k 0 → 1 ≤ field_own k t
+own_first : (k : Job) (t : ℕ) → k.start ≤ t → t < joins k 0 → 1 ≤ own_at k t
 own_first k t a b = omega (arith, on_true (within k.start (joins k 0) t) 1 (within_from k.start (joins k 0) t a b))
 
-own_turn : (k : Job) (t x : ℕ) → x < k.stays → (k.stay x).granted ≤ t → t < joins k (suc x) → 1 ≤ field_own k t
+own_turn : (k : Job) (t x : ℕ) → x < k.stays → (k.stay x).granted ≤ t → t < joins k (suc x) → 1 ≤ own_at k t
 own_turn k t x l a b = omega (
   arith,
   sum_point k.stays (λ x. on (within (k.stay x).granted (joins k (suc x)) t) 1) x l,
   on_true (within (k.stay x).granted (joins k (suc x)) t) 1 (within_from (k.stay x).granted (joins k (suc x)) t a b),
 )
 
-up_to : (k : Job) (t : ℕ) → k.start ≤ t → (m : ℕ) → m ≤ k.stays → t < joins k m → (1 ≤ field_own k t) ⊎ ((x : ℕ) × Waits k t x)
+up_to : (k : Job) (t : ℕ) → k.start ≤ t → (m : ℕ) → m ≤ k.stays → t < joins k m → (1 ≤ own_at k t) ⊎ ((x : ℕ) × Waits k t x)
 up_to k t a zero l b = inl (own_first k t a b)
 up_to k t a (suc m) l b =
     elim (cases_lt t (joins k m)) [
@@ -139,7 +139,7 @@ up_to k t a (suc m) l b =
       ]
     ]
 
-pub own_or_waits : (k : Job) (t : ℕ) → k.start ≤ t → t < k.end → (1 ≤ field_own k t) ⊎ ((x : ℕ) × Waits k t x)
+pub own_or_waits : (k : Job) (t : ℕ) → k.start ≤ t → t < k.end → (1 ≤ own_at k t) ⊎ ((x : ℕ) × Waits k t x)
 own_or_waits k t a b = up_to k t a k.stays (omega arith) (omega (arith, joins_end k))
 
 module _ (group : ℕ → ℕ → Bool) (limits : ℕ → ℕ → Limit) (plan : Plan) (log : Log) (law : Lawful group limits plan log) (i : Task) (t0 blocker w : ℕ) where
@@ -197,13 +197,13 @@ module _ (group : ℕ → ℕ → Bool) (limits : ℕ → ℕ → Limit) (plan :
   tick t l m j o =
       let c = counted t l m j o in
       elim (own_or_waits (log.job j) t o.from o.to) [
-        | inl h ↦ omega (arith, sum_point log.size (λ k. on (counts plan log i t0 blocker w k) (field_own (log.job k) t)) j o.known, on_true (counts plan log i t0 blocker w j) (field_own (log.job j) t) c)
+        | inl h ↦ omega (arith, sum_point log.size (λ k. on (counts plan log i t0 blocker w k) (own_at (log.job k) t)) j o.known, on_true (counts plan log i t0 blocker w j) (own_at (log.job j) t) c)
         | inr v ↦ omega (arith, waiting t l m j o.known c v.0 v.1)
       ]
 
 -- the own ticks of a job in the window
 abbrev pub own_in : ℕ → ℕ → Job → ℕ
-own_in t0 w k = sum w (λ t. field_own k (t0 + t))
+own_in t0 w k = sum w (λ t. own_at k (t0 + t))
 
 abbrev pub clipped : ℕ → Job → ℕ → ℕ
 clipped t k x = min (joins k (suc x)) t - (k.stay x).granted
@@ -230,8 +230,8 @@ cover plan log i t0 blocker w each =
       sum_same w 1,
       sum_le w (λ _. 1) (λ t. owned plan log i t0 blocker w (t0 + t) + served plan log i t0 blocker w (t0 + t)) each,
       sum_add w (λ t. owned plan log i t0 blocker w (t0 + t)) (λ t. served plan log i t0 blocker w (t0 + t)),
-      sum_swap w n (λ t k. on (c k) (field_own (log.job k) (t0 + t))),
-      sum_eq n (λ k. sum w (λ t. on (c k) (field_own (log.job k) (t0 + t)))) (λ k. on (c k) (own_in t0 w (log.job k))) (λ k l. sum_on w (c k) (λ t. field_own (log.job k) (t0 + t))),
+      sum_swap w n (λ t k. on (c k) (own_at (log.job k) (t0 + t))),
+      sum_eq n (λ k. sum w (λ t. on (c k) (own_at (log.job k) (t0 + t)))) (λ k. on (c k) (own_in t0 w (log.job k))) (λ k l. sum_on w (c k) (λ t. own_at (log.job k) (t0 + t))),
       sum_swap w n (λ t k. sum (log.job k).stays (λ y. on (h k y) (service_at ((log.job k).stay y) (t0 + t)))),
       sum_le n (λ k. sum w (λ t. sum (log.job k).stays (λ y. on (h k y) (service_at ((log.job k).stay y) (t0 + t)))))
           (λ k. sum (log.job k).stays (λ y. on (h k y) (len ((log.job k).stay y)))) (λ k l. service k),

@@ -34,8 +34,8 @@ pub fn act_all<B: Arbiter>(
     ensures len { OnOk result (vec_len ready.new.items ≤ vec_len ready.old.items) }
     ensures room { OnOk result (vec_capacity ready.new.items ≡ vec_capacity ready.old.items) }
     ensures goes { (P : Plan) (x : B) (S : State)
-        → At B.Arbiter.means P jobs.now x arb.old time stages.old (record { ready = ready.entry.now.items.items; upto = upto }) log.old S
-        → MatchResult result (λ _. At B.Arbiter.means P jobs.now x arb.new time stages.new (record { ready = ready.exit.now.items.items; upto = upto }) log.new (acts P (script_of jobs.now) cores S)) (λ _. ⊥) }
+        → At B.Arbiter.means P jobs.now x arb.old time stages.old (record { ready = ready.old.items.items; upto = upto }) log.old S
+        → MatchResult result (λ _. At B.Arbiter.means P jobs.now x arb.new time stages.new (record { ready = ready.new.items.items; upto = upto }) log.new (acts P (script_of jobs.now) cores S)) (λ _. ⊥) }
 {
     for core in 0..cores {
         let c = usize::from(core);

@@ -36,7 +36,7 @@ pub fn drive<B: Arbiter>(
     requires empty { vec_len ready.old.items ≤ 0 }
     requires room { 1024 ≤ vec_capacity ready.old.items }
     requires short { Short jobs.now }
-    requires begins { At B.Arbiter.means (plan_of cores _rows.now) jobs.now arb.old arb.old 0 stages.old (record { ready = ready.now.items.items; upto = 0 }) log.old begun }
+    requires begins { At B.Arbiter.means (plan_of cores _rows.now) jobs.now arb.old arb.old 0 stages.old (record { ready = ready.old.items.items; upto = 0 }) log.old begun }
     ensures room { MatchResult result (λ _. 1024 ≤ vec_capacity ready.new.items) (λ _. ⊥) }
     ensures ran { MatchResult result (λ _. Ran B.Arbiter.means (plan_of cores _rows.now) (script_of jobs.now) arb.old arb.new log.new) (λ _. ⊥) }
 {

@@ -21,8 +21,8 @@ pub fn release_due(jobs: &[Job], time: u64, upto: usize, ready: &mut Roster<Read
     ensures room { vec_capacity ready.old.items ≤ vec_capacity ready.new.items }
     ensures below { RowsBelow (length jobs.now) ready.new.items.items }
     ensures pooled { (P : Plan) (S : State) → ((k : ℕ) → k < length jobs.now → Fetched P jobs.now k) → S.now ≡ time
-        → Pooled P (script_of jobs.now) (record { ready = ready.entry.now.items.items; upto = upto }) S
-        → Pooled P (script_of jobs.now) (record { ready = ready.exit.now.items.items; upto = result }) S }
+        → Pooled P (script_of jobs.now) (record { ready = ready.old.items.items; upto = upto }) S
+        → Pooled P (script_of jobs.now) (record { ready = ready.new.items.items; upto = result }) S }
     ensures all { (P : Plan) → LawfulScript P (script_of jobs.now) → AllReleased jobs.now time result }
 {
     for k in upto..jobs.len() {
