@@ -1,10 +1,12 @@
 -- Step 8: the bound.
-use Rattle.std.proofs.Common.{ℕ, ◌+◌, ◌<◌, ◌≤◌, Bool, refl, inl, inr, le_refl, arith}
+use Rattle.std.proofs.Common.{ℕ, ◌+◌, ◌<◌, ◌≤◌, Bool, inl, inr, arith}
 use Rattle.std.proofs.lemmas.Bool.{cases_lt}
-use Rattle.tasks.specs.declared.limit.Limit.{Limit}
+use Rattle.tasks.specs.Limits.{Limit}
 use Rattle.argument.specs.General.{Task, Plan, Log, task_of, Lawful, WindowFor}
 use Rattle.argument.specs.Theorems.{EveryJobEndsWithinItsWindowInGeneral}
-use Rattle.argument.proofs.Searches.{strong}
+use lib.WfN.{lt-wf_rel}
+use mathlib.Core.WellFounded.{induction}
+use mathlib.Core.WellFounded.InvImage
 use Rattle.argument.proofs.BusyWindow.{Level, Begins, begins, Blocker, blocker_of, on_core, left_over}
 use Rattle.argument.proofs.Cover.{owned, served, tick, cover}
 use Rattle.argument.proofs.OwnTicks.{own_ticks}
@@ -37,7 +39,7 @@ module _ (group : ℕ → ℕ → Bool) (limits : ℕ → ℕ → Limit) (plan :
       win = windows (log.job j).task (law.known j known)
 
       level_j : Level plan log i j
-      level_j = record { known = known; same = refl; high = le_refl i.rank }
+      level_j = grind arith
 
       begun : (t0 : ℕ) × Begins plan log i (log.job j).ready t0
       begun = begins plan log i (log.job j).ready
@@ -63,13 +65,10 @@ module _ (group : ℕ → ℕ → Bool) (limits : ℕ → ℕ → Limit) (plan :
           tick group limits plan log law i t0 blocker W (t0 + t) (omega arith) (omega arith) o.0 o.1
 
       punctual : (k : ℕ) → k < log.size → (log.job k).release + (task_of plan (log.job k)).reach ≤ t0 → (log.job k).end ≤ t0
-      punctual k l early =
-          let v = windows (log.job k).task (law.known k l) in
-          let r = (law.possible k l).ready_by in
-          omega (arith, v.in_reach, before k (omega (arith, v.in_reach, B.before, win.some)) l)
+      punctual k l early = grind arith
 
   pub in_time : (k : ℕ) → InTime k
-  in_time = strong InTime (λ k. (log.job k).ready + w (log.job k).task) (λ j before known.
+  in_time k = induction (InvImage.wf (λ k. (log.job k).ready + w (log.job k).task) lt-wf_rel.wf) {C = InTime} k (λ j before known.
       elim (cases_lt ((log.job j).ready + w (log.job j).task) (log.job j).end) [
         | inl over ↦ absurd (late j known before over)
         | inr done ↦ done

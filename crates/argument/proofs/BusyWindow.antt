@@ -1,12 +1,11 @@
 -- Steps 1 to 4: where the busy window begins, who blocks it, who is on the core in it, and what is left over at its end.
-use Rattle.std.proofs.Common.{◌≡◌, ℕ, suc, ◌+◌, ◌<◌, ◌≤◌, max, Bool, true, ◌&&◌, ltb, ◌⊎◌, sym, refl, ap, ◌∙◌, inl, inr, arith}
-use Rattle.std.proofs.lemmas.Bool.{cases_eq, cases_lt, cases_Bool}
-use Rattle.tasks.specs.declared.limit.Limit.{Limit}
+use Rattle.std.proofs.Common.{◌≡◌, ℕ, suc, ◌+◌, ◌<◌, ◌≤◌, max, Bool, ◌&&◌, ltb, ◌⊎◌, refl, ◌∙◌, inl, inr, arith}
+use Rattle.std.proofs.lemmas.Bool.{cases_lt}
+use Rattle.tasks.specs.Limits.{Limit}
 use Rattle.argument.specs.Sums.{on, greatest}
 use Rattle.argument.specs.General.{Task, Plan, Log, task_of, core_of, lower, Lawful}
-use Rattle.argument.proofs.Counts.{on_true, on_false}
 use Rattle.argument.proofs.Exchange.{greatest_point, greatest_reached}
-use Rattle.argument.proofs.Searches.{all_or, greatest_moment}
+use Rattle.argument.proofs.Searches.{first_or, greatest_moment}
 
 -- a job at i's level
 pub record Level (plan : Plan) (log : Log) (i : Task) (k : ℕ) : Type 0 where
@@ -28,56 +27,17 @@ pub record Lower (plan : Plan) (log : Log) (i : Task) (k : ℕ) : Type 0 where
   pub same : core_of plan (log.job k) ≡ i.core
   pub low : i.rank < (task_of plan (log.job k)).rank
 
-under_way_parts : (plan : Plan) (log : Log) (i : Task) (t k : ℕ) → under_way plan log i t k ≡ true
-    → (core_of plan (log.job k) ≡ i.core) × (i.rank < (task_of plan (log.job k)).rank) × ((log.job k).start < t)
-under_way_parts plan log i t k e = grind arith
-
-under_way_from : (plan : Plan) (log : Log) (i : Task) (t k : ℕ) → core_of plan (log.job k) ≡ i.core → i.rank < (task_of plan (log.job k)).rank
-    → (log.job k).start < t → under_way plan log i t k ≡ true
-under_way_from plan log i t k a b c = grind arith
-
 -- a lower job that was started before t has ended by the horizon
 pub in_horizon : (plan : Plan) (log : Log) (i : Task) (t k : ℕ) → Lower plan log i k → (log.job k).start < t → (log.job k).end ≤ horizon plan log i t
-in_horizon plan log i t k v b = omega (
-  arith,
-  greatest_point log.size (λ k. on (under_way plan log i t k) (log.job k).end) k v.known,
-  on_true (under_way plan log i t k) (log.job k).end (under_way_from plan log i t k v.same v.low b),
-)
+in_horizon plan log i t k v b = grind (arith, greatest_point log.size (λ k. on (under_way plan log i t k) (log.job k).end) k)
 
 -- the horizon is t, or the end of such a job
 pub horizon_is : (plan : Plan) (log : Log) (i : Task) (t : ℕ)
     → (horizon plan log i t ≡ t) ⊎ ((x : ℕ) × Lower plan log i x × ((log.job x).start < t) × ((log.job x).end ≡ horizon plan log i t))
-horizon_is plan log i t =
-    elim (cases_lt t top) [
-      | inr none ↦ inl (omega arith)
-      | inl some ↦ elim (greatest_reached log.size (λ k. on (under_way plan log i t k) (log.job k).end)) [
-        | inl z ↦ absurd (nothing z some)
-        | inr found ↦ elim (cases_Bool (under_way plan log i t found.0)) [
-          | inr no' ↦ absurd (nothing (sym found.2 ∙ on_false (under_way plan log i t found.0) (log.job found.0).end no') some)
-          | inl yes' ↦
-              let p = under_way_parts plan log i t found.0 yes' in
-              inr (
-                found.0,
-                record { known = found.1; same = p.0; low = p.1 },
-                p.2,
-                omega (arith, found.2, on_true (under_way plan log i t found.0) (log.job found.0).end yes'),
-              )
-        ]
-      ]
-    ]
-  where
-    top : ℕ
-    top = greatest log.size (λ k. on (under_way plan log i t k) (log.job k).end)
-
-    nothing : top ≡ 0 → t < top → ⊥
-    nothing z l = omega arith
+horizon_is plan log i t = grind (arith, greatest_reached log.size (λ k. on (under_way plan log i t k) (log.job k).end))
 
 horizon_grows : (plan : Plan) (log : Log) (i : Task) (t u : ℕ) → t ≤ u → horizon plan log i t ≤ horizon plan log i u
-horizon_grows plan log i t u l =
-    elim (horizon_is plan log i t) [
-      | inl e ↦ omega (arith, e)
-      | inr x ↦ omega (arith, x.3, in_horizon plan log i u x.0 x.1 (omega (arith, x.2)))
-    ]
+horizon_grows plan log i t u l = grind (arith, horizon_is, in_horizon)
 
 -- ready before t, and not ended by the horizon
 pub record Left (plan : Plan) (log : Log) (i : Task) (t k : ℕ) : Type 0 where
@@ -98,51 +58,25 @@ pub record Begins (plan : Plan) (log : Log) (i : Task) (p t0 : ℕ) : Type 0 whe
 harmless_or : (plan : Plan) (log : Log) (i : Task) (t k : ℕ)
     → (Level plan log i k → (log.job k).ready < t → (log.job k).end ≤ horizon plan log i t)
     ⊎ (k < log.size → Left plan log i t k)
-harmless_or plan log i t k =
-    elim (cases_eq (core_of plan (log.job k)) i.core) [
-      | inr n ↦ inl (λ v _. absurd (n v.same))
-      | inl e ↦ elim (cases_lt i.rank (task_of plan (log.job k)).rank) [
-        | inl l ↦ inl (λ v _. omega (arith, v.high))
-        | inr h ↦ elim (cases_lt (log.job k).ready t) [
-          | inr r ↦ inl (λ v b. omega arith)
-          | inl b ↦ elim (cases_lt (horizon plan log i t) (log.job k).end) [
-            | inr r ↦ inl (λ v _. r)
-            | inl a ↦ inr (λ m. record { at_level = record { known = m; same = e; high = h }; before = b; after = a })
-          ]
-        ]
-      ]
-    ]
+harmless_or plan log i t k = grind arith
 
 clear_or : (plan : Plan) (log : Log) (i : Task) (t : ℕ) → Clear plan log i t ⊎ ((k : ℕ) × Left plan log i t k)
 clear_or plan log i t =
-    elim (all_or log.size (λ k. Level plan log i k → (log.job k).ready < t → (log.job k).end ≤ horizon plan log i t)
-    (λ k. k < log.size → Left plan log i t k) (harmless_or plan log i t)) [
-      | inl all ↦ inl (λ k v. all k v.known v)
-      | inr found ↦ inr (found.0, found.2 found.1)
-    ]
+    let f = first_or log.size (λ k. Level plan log i k → (log.job k).ready < t → (log.job k).end ≤ horizon plan log i t) (λ k. k < log.size → Left plan log i t k) (harmless_or plan log i t) in
+    grind arith
 
 -- step 1
 pub begins : (plan : Plan) (log : Log) (i : Task) (p : ℕ) → (t0 : ℕ) × Begins plan log i p t0
 begins plan log i p =
-    let g = greatest_moment (Clear plan log i) (λ t. (k : ℕ) × Left plan log i t k) (clear_or plan log i) (λ k v b. absurd (nothing k b)) p in
+    let g = greatest_moment (Clear plan log i) (λ t. (k : ℕ) × Left plan log i t k) (clear_or plan log i) (λ k v b. absurd (omega arith)) p in
     (g.0, record { before = g.1; clear = g.2; left = g.3 })
-  where
-    nothing : (k : ℕ) → (log.job k).ready < 0 → ⊥
-    nothing k b = omega arith
 
 -- the blocker of a window that begins at t0: a lower job that was started before, and ends last; none has the number of no job
 pub record Blocker (plan : Plan) (log : Log) (i : Task) (t0 x : ℕ) : Type 0 where
   pub covers : (t : ℕ) → t0 ≤ t → t < horizon plan log i t0 → Lower plan log i x × ((log.job x).start < t0) × (t < (log.job x).end)
 
 pub blocker_of : (plan : Plan) (log : Log) (i : Task) (t0 : ℕ) → (x : ℕ) × Blocker plan log i t0 x
-blocker_of plan log i t0 =
-    elim (horizon_is plan log i t0) [
-      | inl e ↦ (log.size, record { covers = λ t l m. absurd (nothing t l m e) })
-      | inr x ↦ (x.0, record { covers = λ t l m. (x.1, x.2, omega (arith, x.3)) })
-    ]
-  where
-    nothing : (t : ℕ) → t0 ≤ t → t < horizon plan log i t0 → horizon plan log i t0 ≡ t0 → ⊥
-    nothing t l m e = omega arith
+blocker_of plan log i t0 = let h = horizon_is plan log i t0 in grind arith
 
 -- on the core at t: a job at the level that is ready in the window, or the blocker x
 pub record Occupies (plan : Plan) (log : Log) (i : Task) (t0 x t j : ℕ) : Type 0 where
@@ -164,10 +98,8 @@ module _ (plan : Plan) (group : ℕ → ℕ → Bool) (limits : ℕ → ℕ → 
   pending : (t : ℕ) → t0 ≤ t → t < (log.job J).end → (q : ℕ) × Pending t q
   pending t l m =
       elim (cases_lt t (log.job J).ready) [
-        | inr r ↦ (J, record { at_level = J_level; ready = r; going = m })
-        | inl b ↦
-            let x = B.left (suc t) (omega arith) (omega arith) in
-            (x.0, record { at_level = x.1.at_level; ready = omega (arith, x.1.before); going = omega (arith, x.1.after) })
+        | inr r ↦ (J, grind arith)
+        | inl b ↦ let x = B.left (suc t) (omega arith) (omega arith) in (x.0, grind (arith, x.1))
       ]
 
   -- step 3: a lower job that starts in the window, and is under way at t, does so beside a job at the level that is under way at t
@@ -187,27 +119,16 @@ module _ (plan : Plan) (group : ℕ → ℕ → Bool) (limits : ℕ → ℕ → 
     where
       -- who is ready when a lower job starts has started
       started : (q : ℕ) → Level plan log i q → (log.job q).ready ≤ (log.job j).start → (log.job q).start ≤ t
-      started q w r =
-          elim (cases_lt (log.job j).start (log.job q).start) [
-            | inr s ↦ omega arith
-            | inl s ↦ absurd (elim (law.right j q v.known w.known (v.same ∙ sym w.same) r s) [
-              | inl h ↦ omega (arith, h, v.low, w.high)
-              | inr h ↦ omega (arith, v.low, w.high, ap (λ u. (plan.task u).rank) h.0)
-            ])
-          ]
+      started q w r = grind arith
 
   module _ (x : ℕ) (X : Blocker plan log i t0 x) where
     -- who is at the level, and under way, occupies the core, or the blocker does
     level_or : (t : ℕ) → t0 ≤ t → (q : ℕ) → Level plan log i q → (log.job q).start ≤ t → t < (log.job q).end → (j : ℕ) × Occupies plan log i t0 x t j
     level_or t l q v s e =
         elim (cases_lt (log.job q).ready t0) [
-          | inr r ↦ (q, record { known = v.known; same = v.same; from = s; to = e; kind = inl (v.high, r) })
-          | inl b ↦ blocked (omega (arith, B.clear q v b))
+          | inr r ↦ (q, grind (arith, v))
+          | inl b ↦ (x, grind (arith, X.covers t l (omega (arith, B.clear q v b))))
         ]
-      where
-        blocked : t < horizon plan log i t0 → (j : ℕ) × Occupies plan log i t0 x t j
-        blocked h = let y = X.covers t l h in
-            (x, record { known = y.0.known; same = y.0.same; from = omega (arith, y.1); to = y.2; kind = inr (y.0.low, refl) })
 
     pub on_core : (t : ℕ) → t0 ≤ t → t < (log.job J).end → (j : ℕ) × Occupies plan log i t0 x t j
     on_core t l m =
@@ -250,12 +171,5 @@ module _ (plan : Plan) (group : ℕ → ℕ → Bool) (limits : ℕ → ℕ → 
         | inl b ↦ (J, J_level, B.before, b, omega (arith, B.before))
         | inr r ↦
             let x = B.left (t0 + w) (omega arith) r in
-            (x.0, x.1.at_level, in_window x.0 x.1, x.1.before, omega (arith, x.1.after))
+            (x.0, x.1.at_level, grind (arith, x.1, B.clear x.0, horizon_grows plan log i t0 (t0 + w)), x.1.before, omega (arith, x.1.after))
       ]
-    where
-      in_window : (q : ℕ) → Left plan log i (t0 + w) q → t0 ≤ (log.job q).ready
-      in_window q v =
-          elim (cases_lt (log.job q).ready t0) [
-            | inr r ↦ r
-            | inl b ↦ omega (arith, B.clear q v.at_level b, v.after, horizon_grows plan log i t0 (t0 + w) (omega arith))
-          ]

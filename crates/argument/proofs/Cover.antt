@@ -1,7 +1,7 @@
 -- Step 5: each tick of the window is an own tick of a job that counts, or a tick of a service that holds one up.
-use Rattle.std.proofs.Common.{◌≡◌, ℕ, zero, suc, ◌+◌, ◌-◌, ◌<◌, ◌≤◌, min, Bool, true, not, ◌&&◌, ◌||◌, eqb, ltb, ◌⊎◌, sym, ◌∙◌, inl, inr, arith}
-use Rattle.std.proofs.lemmas.Bool.{cases_lt, and_parts, and_from, or_left, or_right, lt-ltb, le-ltb, eqb-false, ne_eqb, not-true, not_from_false, ltb-true, cond-true, cond-false}
-use Rattle.tasks.specs.declared.limit.Limit.{Limit}
+use Rattle.std.proofs.Common.{◌≡◌, ℕ, zero, suc, ◌+◌, ◌-◌, ◌<◌, ◌≤◌, min, Bool, true, not, ◌&&◌, ◌||◌, eqb, ltb, ◌⊎◌, sym, ◌∙◌, arith}
+use Rattle.std.proofs.lemmas.Bool.{and_from, lt-ltb, le-ltb, cond-true, cond-false}
+use Rattle.tasks.specs.Limits.{Limit}
 use Rattle.argument.specs.Sums.{sum, on, any}
 use Rattle.argument.specs.General.{Task, Plan, Job, Log, Stay, task_of, core_of, joins, meets, level, lower, Carried, Lawful}
 use Rattle.argument.proofs.Sums.{sum_le, sum_eq, sum_add, sum_swap, sum_point, sum_same}
@@ -52,54 +52,24 @@ pub record Holds (plan : Plan) (log : Log) (i : Task) (t0 blocker w k y j x : �
   pub turn : x < (log.job j).stays
   pub met : meets ((log.job j).stay x) ((log.job k).stay y) ≡ true
 
-pub inside_parts : (plan : Plan) (log : Log) (i : Task) (t0 w k : ℕ) → inside plan log i t0 w k ≡ true → Inside plan log i t0 w k
-inside_parts plan log i t0 w k e = grind arith
-
 pub inside_from : (plan : Plan) (log : Log) (i : Task) (t0 w k : ℕ) → Inside plan log i t0 w k → inside plan log i t0 w k ≡ true
 inside_from plan log i t0 w k x = grind arith
-
-blocks_from : (plan : Plan) (log : Log) (i : Task) (blocker k : ℕ) → k ≡ blocker → core_of plan (log.job k) ≡ i.core
-    → i.rank < (task_of plan (log.job k)).rank → blocks plan log i blocker k ≡ true
-blocks_from plan log i blocker k e same low = grind arith
 
 pub counts_same : (plan : Plan) (log : Log) (i : Task) (t0 blocker w k : ℕ) → counts plan log i t0 blocker w k ≡ true → core_of plan (log.job k) ≡ i.core
 counts_same plan log i t0 blocker w k e = grind arith
 
-three : (a b c d : Bool) → (a && ((b && c) && d)) ≡ true → (a ≡ true) × (b ≡ true) × (c ≡ true) × (d ≡ true)
-three a b c d e = grind arith
-
 pub holds_parts : (plan : Plan) (log : Log) (i : Task) (t0 blocker w k y : ℕ) → holds plan log i t0 blocker w k y ≡ true → (j : ℕ) × (x : ℕ) × Holds plan log i t0 blocker w k y j x
 holds_parts plan log i t0 blocker w k y e =
     let s = (log.job k).stay y in
-    let p = three (not (eqb (core_of plan (log.job k)) i.core)) (ltb s.granted (t0 + w)) (ltb t0 s.ended) (delays plan log i t0 blocker w s) e in
-    let f = any_true log.size (λ j. counts plan log i t0 blocker w j && any (log.job j).stays (λ x. meets ((log.job j).stay x) s)) p.3 in
-    let q = and_parts (counts plan log i t0 blocker w f.0) (any (log.job f.0).stays (λ x. meets ((log.job f.0).stay x) s)) f.2 in
-    let g = any_true (log.job f.0).stays (λ x. meets ((log.job f.0).stay x) s) q.1 in (
-      f.0,
-      g.0,
-      record {
-        other = eqb-false (core_of plan (log.job k)) i.core (not-true (eqb (core_of plan (log.job k)) i.core) p.0);
-        from = ltb-true s.granted (t0 + w) p.1;
-        to = ltb-true t0 s.ended p.2;
-        known = f.1;
-        counted = q.0;
-        turn = g.1;
-        met = g.2;
-      },
-    )
-
-four : (a b c d : Bool) → a ≡ true → b ≡ true → c ≡ true → d ≡ true → (a && ((b && c) && d)) ≡ true
-four a b c d p q r s = grind arith
+    let f = any_true log.size (λ j. counts plan log i t0 blocker w j && any (log.job j).stays (λ x. meets ((log.job j).stay x) s)) (grind arith) in
+    let g = any_true (log.job f.0).stays (λ x. meets ((log.job f.0).stay x) s) (grind arith) in
+    (f.0, g.0, grind arith)
 
 pub holds_from : (plan : Plan) (log : Log) (i : Task) (t0 blocker w k y j x : ℕ) → Holds plan log i t0 blocker w k y j x → holds plan log i t0 blocker w k y ≡ true
 holds_from plan log i t0 blocker w k y j x h =
     let s = (log.job k).stay y in
-    four (not (eqb (core_of plan (log.job k)) i.core)) (ltb s.granted (t0 + w)) (ltb t0 s.ended) (delays plan log i t0 blocker w s)
-    (not_from_false (eqb (core_of plan (log.job k)) i.core) (ne_eqb (core_of plan (log.job k)) i.core h.other))
-    (lt-ltb s.granted (t0 + w) h.from) (lt-ltb t0 s.ended h.to)
-    (any_from log.size (λ j. counts plan log i t0 blocker w j && any (log.job j).stays (λ x. meets ((log.job j).stay x) s)) j h.known
-    (and_from (counts plan log i t0 blocker w j) (any (log.job j).stays (λ x. meets ((log.job j).stay x) s)) h.counted
-    (any_from (log.job j).stays (λ x. meets ((log.job j).stay x) s) x h.turn h.met)))
+    let f = any_from (log.job j).stays (λ x. meets ((log.job j).stay x) s) x h.turn h.met in
+    grind (arith, any_from log.size (λ j. counts plan log i t0 blocker w j && any (log.job j).stays (λ x. meets ((log.job j).stay x) s)) j)
 
 -- what counts at the tick t: own ticks, and ticks of services
 abbrev pub owned : Plan → Log → Task → ℕ → ℕ → ℕ → ℕ → ℕ
@@ -109,7 +79,7 @@ abbrev pub served : Plan → Log → Task → ℕ → ℕ → ℕ → ℕ → �
 served plan log i t0 blocker w t = sum log.size (λ k. sum (log.job k).stays (λ y. on (holds plan log i t0 blocker w k y) (service_at ((log.job k).stay y) t)))
 
 pub joins_turn : (k : Job) (x : ℕ) → x < k.stays → joins k x ≡ (k.stay x).joined
-joins_turn k x l = cond-true (ltb x k.stays) (k.stay x).joined k.end (lt-ltb x k.stays l)
+joins_turn k x l = cond-true (ltb x k.stays) (k.stay x).joined k.end (lt-ltb _ _ l)
 
 pub joins_end : (k : Job) → joins k k.stays ≡ k.end
 joins_end k = cond-false (ltb k.stays k.stays) (k.stay k.stays).joined k.end (le-ltb k.stays k.stays (omega arith))
@@ -118,40 +88,20 @@ joins_end k = cond-false (ltb k.stays k.stays) (k.stay k.stays).joined k.end (le
 abbrev pub Waits : Job → ℕ → ℕ → Type 0
 Waits k t x = (x < k.stays) × ((k.stay x).joined ≤ t) × (t < (k.stay x).granted)
 
-own_first : (k : Job) (t : ℕ) → k.start ≤ t → t < joins k 0 → 1 ≤ own_at k t
-own_first k t a b = omega (arith, on_true (within k.start (joins k 0) t) 1 (within_from k.start (joins k 0) t a b))
-
 own_turn : (k : Job) (t x : ℕ) → x < k.stays → (k.stay x).granted ≤ t → t < joins k (suc x) → 1 ≤ own_at k t
-own_turn k t x l a b = omega (
-  arith,
-  sum_point k.stays (λ x. on (within (k.stay x).granted (joins k (suc x)) t) 1) x l,
-  on_true (within (k.stay x).granted (joins k (suc x)) t) 1 (within_from (k.stay x).granted (joins k (suc x)) t a b),
-)
+own_turn k t x l a b = grind (arith, sum_point k.stays (λ x. on (within (k.stay x).granted (joins k (suc x)) t) 1) x l)
 
 up_to : (k : Job) (t : ℕ) → k.start ≤ t → (m : ℕ) → m ≤ k.stays → t < joins k m → (1 ≤ own_at k t) ⊎ ((x : ℕ) × Waits k t x)
-up_to k t a zero l b = inl (own_first k t a b)
-up_to k t a (suc m) l b =
-    elim (cases_lt t (joins k m)) [
-      | inl before ↦ up_to k t a m (omega arith) before
-      | inr after ↦ elim (cases_lt t (k.stay m).granted) [
-        | inl w ↦ inr (m, (l, omega (arith, joins_turn k m l), w))
-        | inr g ↦ inl (own_turn k t m l g b)
-      ]
-    ]
+up_to k t a zero l b = grind arith
+up_to k t a (suc m) l b = grind (arith, up_to k t a m, own_turn k t m)
 
 pub own_or_waits : (k : Job) (t : ℕ) → k.start ≤ t → t < k.end → (1 ≤ own_at k t) ⊎ ((x : ℕ) × Waits k t x)
-own_or_waits k t a b = up_to k t a k.stays (omega arith) (omega (arith, joins_end k))
+own_or_waits k t a b = grind (arith, up_to k t a k.stays, joins_end k)
 
 module _ (group : ℕ → ℕ → Bool) (limits : ℕ → ℕ → Limit) (plan : Plan) (log : Log) (law : Lawful group limits plan log) (i : Task) (t0 blocker w : ℕ) where
   -- who is on the core at a tick of the window counts
   counted : (t : ℕ) → t0 ≤ t → t < t0 + w → (j : ℕ) → Occupies plan log i t0 blocker t j → counts plan log i t0 blocker w j ≡ true
-  counted t l m j o =
-      elim o.kind [
-        | inl h ↦ or_left (inside plan log i t0 w j) (blocks plan log i blocker j)
-            (inside_from plan log i t0 w j (record { same = o.same; high = h.0; from = h.1; to = omega (arith, (law.possible j o.known).starts, o.from) }))
-        | inr h ↦ or_right (inside plan log i t0 w j) (blocks plan log i blocker j)
-            (blocks_from plan log i blocker j h.1 o.same h.0)
-      ]
+  counted t l m j o = grind arith
 
   waiting : (t : ℕ) → t0 ≤ t → t < t0 + w → (j : ℕ) → j < log.size → counts plan log i t0 blocker w j ≡ true → (x : ℕ) → Waits (log.job j) t x → 1 ≤ served plan log i t0 blocker w t
   waiting t l m j known c x v =
@@ -159,8 +109,8 @@ module _ (group : ℕ → ℕ → Bool) (limits : ℕ → ℕ → Limit) (plan :
         arith,
         sum_point log.size (λ k. sum (log.job k).stays (λ y. on (holds plan log i t0 blocker w k y) (service_at ((log.job k).stay y) t))) k z.known,
         sum_point (log.job k).stays (λ y. on (holds plan log i t0 blocker w k y) (service_at ((log.job k).stay y) t)) y z.turn,
-        on_true (holds plan log i t0 blocker w k y) (service_at s t) held,
-        on_true (within s.granted s.ended t) 1 (within_from s.granted s.ended t z.from z.to),
+        on_true _ (service_at s t) held,
+        on_true _ 1 (within_from s.granted s.ended t z.from z.to),
       )
     where
       f : (k : ℕ) × (y : ℕ) × Carried plan log (core_of plan (log.job j)) t k y
@@ -194,12 +144,7 @@ module _ (group : ℕ → ℕ → Bool) (limits : ℕ → ℕ → Limit) (plan :
       })
 
   pub tick : (t : ℕ) → t0 ≤ t → t < t0 + w → (j : ℕ) → Occupies plan log i t0 blocker t j → 1 ≤ owned plan log i t0 blocker w t + served plan log i t0 blocker w t
-  tick t l m j o =
-      let c = counted t l m j o in
-      elim (own_or_waits (log.job j) t o.from o.to) [
-        | inl h ↦ omega (arith, sum_point log.size (λ k. on (counts plan log i t0 blocker w k) (own_at (log.job k) t)) j o.known, on_true (counts plan log i t0 blocker w j) (own_at (log.job j) t) c)
-        | inr v ↦ omega (arith, waiting t l m j o.known c v.0 v.1)
-      ]
+  tick t l m j o = grind (arith, counted t l m j o, own_or_waits (log.job j) t, waiting t l m j, sum_point log.size (λ k. on (counts plan log i t0 blocker w k) (own_at (log.job k) t)) j)
 
 -- the own ticks of a job in the window
 abbrev pub own_in : ℕ → ℕ → Job → ℕ
@@ -209,13 +154,12 @@ abbrev pub clipped : ℕ → Job → ℕ → ℕ
 clipped t k x = min (joins k (suc x)) t - (k.stay x).granted
 
 pub own_in_le : (t0 w : ℕ) (k : Job) → own_in t0 w k ≤ (min (joins k 0) (t0 + w) - k.start) + sum k.stays (clipped (t0 + w) k)
-own_in_le t0 w k = omega (
+own_in_le t0 w k = grind (
   arith,
   sum_add w (λ t. on (within k.start (joins k 0) (t0 + t)) 1) (λ t. sum k.stays (λ x. on (within (k.stay x).granted (joins k (suc x)) (t0 + t)) 1)),
-  clip w t0 k.start (joins k 0),
   sum_swap w k.stays (λ t x. on (within (k.stay x).granted (joins k (suc x)) (t0 + t)) 1),
-  sum_le k.stays (λ x. sum w (λ t. on (within (k.stay x).granted (joins k (suc x)) (t0 + t)) 1)) (clipped (t0 + w) k)
-      (λ x _. clip w t0 (k.stay x).granted (joins k (suc x))),
+  sum_le k.stays (λ x. sum w (λ t. on (within (k.stay x).granted (joins k (suc x)) (t0 + t)) 1)) (clipped (t0 + w) k),
+  clip w t0,
 )
 
 abbrev pub len : Stay → ℕ

@@ -1,9 +1,7 @@
 -- The bound of a plan: the general one at two turns a job, no delay, the deadline as reach, and a group for each core.
-use Rattle.std.proofs.Common.{◌≡◌, ℕ, zero, suc, ◌+◌, ◌*◌, ◌<◌, ◌≤◌, max, Bool, true, false, not, ◌&&◌, ◌||◌, eqb, Ok, sym, refl, ap, ◌∙◌, subst, inl, inr, add-zero, arith}
-use Rattle.std.proofs.lemmas.Bool.{and_from, and_right, cases_lt, cases_eq, cases_Bool, eqb-true, eqb-false, eq-eqb, ne_eqb, not_from_false}
-use Rattle.tasks.specs.declared.limit.Limit.{Limit}
-use Rattle.tasks.specs.declared.limit.Limit.TheVariants.{Phases, Unlimited}
-use Rattle.tasks.specs.Limits.{Within, times}
+use Rattle.std.proofs.Common.{◌≡◌, ℕ, zero, suc, ◌+◌, ◌*◌, ◌<◌, ◌≤◌, Bool, not, eqb, Ok, refl, ap, subst, inl, inr, add-zero, arith}
+use Rattle.std.proofs.lemmas.Bool.{cases_lt, cases_eq, cases_Bool, eqb-true, eqb-false, not_from_false}
+use Rattle.tasks.specs.Limits.{Within, times, Limit}
 use Rattle.tasks.specs.declared.task.Row.{Row}
 use Rattle.tasks.specs.Rows.{cost, row_verdict}
 use Rattle.argument.specs.Sums.{sum, on, any, greatest, ceil}
@@ -14,19 +12,14 @@ use Rattle.argument.specs.Logs as B
 use Rattle.argument.specs.Theorems.{EveryJobEndsWithinItsWindow, OneJobAtATimeIsNotNeeded}
 use Rattle.argument.specs.General as G
 use Rattle.argument.proofs.Sums.{sum_zero, sum_le, sum_eq, sum_mul}
-use Rattle.argument.proofs.Counts.{on_le, on_true, on_false}
+use Rattle.argument.proofs.Counts.{on_true}
 use Rattle.argument.proofs.Exchange.{on_mono, by_key}
-use Rattle.argument.proofs.Shares.{choice_le_share, within_less}
-use Rattle.argument.proofs.Numbered.{number}
+use Rattle.argument.proofs.Limits.{within_none, within_less}
+use Rattle.argument.proofs.Shares.{choice_le_share}
 use Rattle.argument.proofs.Bound.{bound}
 
 below_two : (F : ℕ → Type 0) → F 0 → F 1 → (k : ℕ) → k < 2 → F k
-below_two F x y zero l = x
-below_two F x y (suc zero) l = y
-below_two F x y (suc (suc k)) l = absurd (nothing k l)
-  where
-    nothing : (k : ℕ) → suc (suc k) < 2 → ⊥
-    nothing k l = omega arith
+below_two F h i k j = grind arith
 
 abbrev to_task : Row → G.Task
 to_task h = record {
@@ -56,70 +49,33 @@ to_log log = record { size = log.size; job = λ k. to_job (log.job k) }
 abbrev single : ℕ → ℕ → Bool
 single g b = eqb b g
 
-within_none : (b : Limit) (x : ℕ) → x ≡ 0 → Within b x
-within_none (Phases n) x e = omega arith
-within_none Unlimited x e = tt
-
 possible : (plan : Plan) (k : B.Job) → B.Possible plan k → G.Possible (to_task (B.row_of plan k)) (to_job k)
-possible plan k p = record {
-  ready_from = omega arith;
-  ready_by = omega arith;
-  starts = p.starts;
-  lasts = omega (arith, p);
-  few = omega arith;
-  begins = omega arith;
-  waits = below_two (λ x. (to_stay k x).joined ≤ (to_stay k x).granted) p.waits_a p.waits_r;
-  serves = below_two (λ x. (to_stay k x).granted < (to_stay k x).ended) p.some_a p.some_r;
-  most = below_two (λ x. (to_stay k x).ended ≤ (to_stay k x).granted + (to_task (B.row_of plan k)).long x) p.most_a p.most_r;
-  goes_on = below_two (λ x. (to_stay k x).ended ≤ G.joins (to_job k) (suc x)) (omega (arith, p.some_e)) (omega arith);
-  owns = omega (arith, p.most_a, p.most_e, p.most_r);
-}
-
-narrow : (p q : Bool) (a b : ℕ) → on (p && q) (0 + a + b) ≤ on q (a + b)
-narrow true true a b = omega arith
-narrow true false a b = omega arith
-narrow false q a b = omega arith
-
-none_other : (b c g x : ℕ) → g ≡ c → on (not (eqb b c) && eqb b g) x ≡ 0
-none_other b c g x e = subst (λ z. on (not (eqb b z) && eqb b g) x ≡ 0) e (never (eqb b g))
-  where
-    never : (p : Bool) → on (not p && p) x ≡ 0
-    never true = refl
-    never false = refl
-
--- no turn of a core that the plan does not have
-none_there : (p : Bool) (b g x : ℕ) → b < g → on (p && eqb b g) x ≡ 0
-none_there p b g x l = on_false (p && eqb b g) x (and_right p (eqb b g) (ne_eqb b g (λ e. omega arith)))
-
--- a law with another number than one at a time
-others_keep : (law : B.Law) → (number law ≡ number B.one_at_a_time → ⊥) → law ≡ B.one_at_a_time → ⊥
-others_keep law ne same = ne (ap number same)
+possible plan k p = grind arith
 
 module _ (plan : Plan) (limits : ℕ → ℕ → Limit) (log : B.Log) (sound : SoundPlan plan) (keeps : B.KeepsAllBut B.one_at_a_time plan limits log) where
   abbrev core : ℕ → ℕ
   core k = B.core_of plan (log.job k)
 
   possibles : B.PossibleMoments plan log
-  possibles = keeps B.possible_moments (others_keep B.possible_moments (λ e. omega arith))
+  possibles = keeps B.possible_moments (λ e. grind arith)
 
   spaced : B.Spaced plan log
-  spaced = keeps B.spaced_releases (others_keep B.spaced_releases (λ e. omega arith))
+  spaced = keeps B.spaced_releases (λ e. grind arith)
 
   busy : B.NoIdling plan log
-  busy = keeps B.no_idling (others_keep B.no_idling (λ e. omega arith))
+  busy = keeps B.no_idling (λ e. grind arith)
 
   right : B.RightChoice plan log
-  right = keeps B.right_choice (others_keep B.right_choice (λ e. omega arith))
+  right = keeps B.right_choice (λ e. grind arith)
 
   never_free : B.NeverFree plan log
-  never_free = keeps B.never_free (others_keep B.never_free (λ e. omega arith))
+  never_free = keeps B.never_free (λ e. grind arith)
 
   kept : B.LimitsKept plan limits log
-  kept = keeps B.limits_kept (others_keep B.limits_kept (λ e. omega arith))
+  kept = keeps B.limits_kept (λ e. grind arith)
 
   carries : (k t : ℕ) (y : B.Turn) (j : ℕ) → B.Carried plan log k t y j → (j : ℕ) × (y : ℕ) × G.Carried (to_plan plan) (to_log log) (core k) t j y
-  carries k t B.A j v = (j, 0, record { known = v.known; other = v.other; turn = omega arith; from = v.from; to = v.to })
-  carries k t B.R j v = (j, 1, record { known = v.known; other = v.other; turn = omega arith; from = v.from; to = v.to })
+  carries k t y j h = grind arith
 
   abbrev stay_of : B.Turn → B.Job → G.Stay
   stay_of x k = record { joined = B.joined x k; granted = B.granted x k; ended = B.ended x k }
@@ -128,17 +84,11 @@ module _ (plan : Plan) (limits : ℕ → ℕ → Limit) (log : B.Log) (sound : S
       → Within (limits (core k) g) (G.met single (to_plan plan) (to_log log) (core k) (stay_of x (log.job k)) g)
   limited k l g x =
       elim (cases_lt g plan.cores) [
-        | inr none ↦ within_none (limits (core k) g) (G.met single (to_plan plan) (to_log log) (core k) (stay_of x (log.job k)) g)
-            (sum_zero log.size (λ j. on (G.others single (core k) g (core j)) (0 + m B.A j + m B.R j))
-            (λ j n. none_there (not (eqb (core j) (core k))) (core j) g (0 + m B.A j + m B.R j)
-            (omega (arith, sound.placed (log.job j).task (possibles j n).known))))
+        | inr none ↦ within_none (limits (core k) g) _ (sum_zero log.size (λ j. on (G.others single (core k) g (core j)) (0 + m B.A j + m B.R j)) (λ j n. let p = sound.placed (log.job j).task (possibles j n).known in grind arith))
         | inl there ↦ elim (cases_eq g (core k)) [
-          | inl e ↦ within_none (limits (core k) g) (G.met single (to_plan plan) (to_log log) (core k) (stay_of x (log.job k)) g)
-              (sum_zero log.size (λ j. on (G.others single (core k) g (core j)) (0 + m B.A j + m B.R j)) (λ j _. none_other (core j) (core k) g (0 + m B.A j + m B.R j) e))
-          | inr ne ↦ within_less (limits (core k) g) (G.met single (to_plan plan) (to_log log) (core k) (stay_of x (log.job k)) g) (B.met plan log x (log.job k) g)
-              (kept x k l g there ne)
-              (sum_le log.size (λ j. on (G.others single (core k) g (core j)) (0 + m B.A j + m B.R j)) (λ j. on (eqb (core j) g) (m B.A j + m B.R j))
-              (λ j _. narrow (not (eqb (core j) (core k))) (eqb (core j) g) (m B.A j) (m B.R j)))
+          | inl e ↦ within_none (limits (core k) g) _ (sum_zero log.size (λ j. on (G.others single (core k) g (core j)) (0 + m B.A j + m B.R j)) (λ j _. grind arith))
+          | inr ne ↦ within_less (limits (core k) g) _ _ (kept x k l g there ne)
+              (sum_le log.size (λ j. on (G.others single (core k) g (core j)) (0 + m B.A j + m B.R j)) (λ j. on (eqb (core j) g) (m B.A j + m B.R j)) (λ j _. grind arith))
         ]
       ]
     where
@@ -161,12 +111,7 @@ module _ (plan : Plan) (limits : ℕ → ℕ → Limit) (log : B.Log) (sound : S
 
 greatest_on : (n : ℕ) (p : ℕ → Bool) (c : ℕ) → greatest n (λ u. on (p u) c) ≡ on (any n p) c
 greatest_on zero p c = refl
-greatest_on (suc n) p c = ap (λ z. max z (on (p n) c)) (greatest_on n p c) ∙ join (any n p) (p n)
-  where
-    join : (a b : Bool) → max (on a c) (on b c) ≡ on (a || b) c
-    join true true = omega arith
-    join true false = omega arith
-    join false b = omega arith
+greatest_on (suc n) p c = grind (arith, greatest_on n p c)
 
 module _ (plan : Plan) (limits : ℕ → ℕ → Limit) (sound : SoundPlan plan) (place w : ℕ) where
   abbrev i : Row
@@ -176,8 +121,7 @@ module _ (plan : Plan) (limits : ℕ → ℕ → Limit) (sound : SoundPlan plan)
   jobs_same h = ap (λ z. on (level i h) (ceil z h.spacing)) (add-zero w)
 
   own_same : G.own (to_plan plan) (to_task i) w ≡ D.own plan i w
-  own_same = sum_eq plan.size (λ u. cost (plan.row u) * G.jobs (to_task i) w (to_task (plan.row u))) (λ u. cost (plan.row u) * D.jobs i w (plan.row u))
-      (λ u _. ap (λ z. cost (plan.row u) * z) (jobs_same (plan.row u)))
+  own_same = grind arith
 
   turns_same : G.turns (to_plan plan) (to_task i) w ≡ D.turns plan i w
   turns_same = omega (
@@ -195,7 +139,7 @@ module _ (plan : Plan) (limits : ℕ → ℕ → Limit) (sound : SoundPlan plan)
     part b x u = on (eqb (plan.row u).core b) (X u x)
 
     at_most : (u : ℕ) → u < plan.size → (x : ℕ) → x < 2 → X u x ≤ ceil (w + (plan.row u).deadline) (plan.row u).spacing
-    at_most u l x m = omega (arith, ch.each u l x m, on_le (not (eqb (plan.row u).core i.core)) (ceil (w + (plan.row u).deadline) (plan.row u).spacing))
+    at_most u l x m = grind arith
 
     choice : (b : ℕ) → (b ≡ i.core → ⊥) → D.Choice plan b w (times (D.turns plan i w) (limits i.core b)) (part b 0) (part b 1)
     unfolding part
@@ -209,24 +153,10 @@ module _ (plan : Plan) (limits : ℕ → ℕ → Limit) (sound : SoundPlan plan)
     }
       where
         inner : (u : ℕ) → on (eqb (plan.row u).core b) (X u 0) + on (eqb (plan.row u).core b) (X u 1) ≤ on (G.others single i.core b (plan.row u).core) (0 + X u 0 + X u 1)
-        inner u =
-            elim (cases_Bool (eqb (plan.row u).core b)) [
-              | inr n ↦ omega (arith, on_false (eqb (plan.row u).core b) (X u 0) n, on_false (eqb (plan.row u).core b) (X u 1) n)
-              | inl e ↦ omega (
-                arith,
-                on_le (eqb (plan.row u).core b) (X u 0),
-                on_le (eqb (plan.row u).core b) (X u 1),
-                on_true (G.others single i.core b (plan.row u).core) (0 + X u 0 + X u 1) (here u e),
-              )
-            ]
-          where
-            here : (u : ℕ) → eqb (plan.row u).core b ≡ true → G.others single i.core b (plan.row u).core ≡ true
-            here u e = and_from (not (eqb (plan.row u).core i.core)) (eqb (plan.row u).core b)
-                (not_from_false (eqb (plan.row u).core i.core) (ne_eqb (plan.row u).core i.core (λ q. ne (sym (eqb-true (plan.row u).core b e) ∙ q)))) e
+        inner u = grind (arith, ne)
 
     weigh : (p : Bool) (a x r y : ℕ) → on p (a * x + r * y) ≡ a * on p x + r * on p y
-    weigh true a x r y = refl
-    weigh false a x r y = omega arith
+    weigh p a x r y = grind arith
 
     core_part : (b : ℕ) → b < plan.cores → sum plan.size (λ u. on (eqb (plan.row u).core b) (f u))
         ≤ on (not (eqb b i.core)) (D.share plan b w (times (D.turns plan i w) (limits i.core b)))
@@ -235,24 +165,16 @@ module _ (plan : Plan) (limits : ℕ → ℕ → Limit) (sound : SoundPlan plan)
         elim (cases_Bool (eqb b i.core)) [
           | inr n ↦ omega (
             arith,
-            on_true (not (eqb b i.core)) (D.share plan b w (times (D.turns plan i w) (limits i.core b))) (not_from_false (eqb b i.core) n),
-            choice_le_share plan b w (times (D.turns plan i w) (limits i.core b)) (part b 0) (part b 1) (choice b (eqb-false b i.core n)),
+            on_true _ (D.share plan b w (times (D.turns plan i w) (limits i.core b))) (not_from_false _ n),
+            choice_le_share plan b w (times (D.turns plan i w) (limits i.core b)) (part b 0) (part b 1) (choice b (eqb-false _ _ n)),
             sum_eq plan.size (λ u. on (eqb (plan.row u).core b) (f u)) (λ u. (plan.row u).a * part b 0 u + (plan.row u).r * part b 1 u)
                 (λ u _. weigh (eqb (plan.row u).core b) (plan.row u).a (X u 0) (plan.row u).r (X u 1)),
           )
-          | inl e ↦ omega (arith, sum_zero plan.size (λ u. on (eqb (plan.row u).core b) (f u)) (none (eqb-true b i.core e)))
+          | inl e ↦ omega (arith, sum_zero plan.size (λ u. on (eqb (plan.row u).core b) (f u)) (none (eqb-true _ _ e)))
         ]
       where
         none : b ≡ i.core → (u : ℕ) → u < plan.size → on (eqb (plan.row u).core b) (f u) ≡ 0
-        none same u m =
-            elim (cases_Bool (eqb (plan.row u).core b)) [
-              | inr n ↦ on_false (eqb (plan.row u).core b) (f u) n
-              | inl e ↦
-                  let no_offer = on_false (not (eqb (plan.row u).core i.core)) (ceil (w + (plan.row u).deadline) (plan.row u).spacing)
-                  (ap not (eq-eqb (plan.row u).core i.core (eqb-true (plan.row u).core b e ∙ same))) in
-                  let z : (x : ℕ) → x < 2 → X u x ≡ 0 = λ x q. omega (arith, ch.each u m x q, no_offer) in
-                  omega (arith, on_le (eqb (plan.row u).core b) (f u), ap (λ q. (plan.row u).a * q) (z 0 (omega arith)), ap (λ q. (plan.row u).r * q) (z 1 (omega arith)))
-            ]
+        none same u m = grind (arith, ch.each u m 0, ch.each u m 1)
 
     rest : G.total (to_plan plan) X ≤ D.shares plan limits i w
     rest = omega (

@@ -1,6 +1,7 @@
--- what other crates may cite: sums and counts, the theorems, and the tests of a written-out plan and log
+-- what other crates may cite: sums, counts and limits, the theorems, and the tests of a written-out plan and log
 pub mod Sums
 pub mod Counts
+pub mod Limits
 pub mod Exchange
 pub mod Reach
 pub mod LongestFirst

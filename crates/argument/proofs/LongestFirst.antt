@@ -3,9 +3,7 @@ use Rattle.std.proofs.Common.{◌≡◌, ℕ, zero, suc, ◌+◌, ◌<◌, ◌�
 use Rattle.std.proofs.lemmas.List.Sums.{sum_by-cons}
 use Rattle.std.proofs.lemmas.List.Sorted.{sum_by-IsPermutation}
 use Rattle.std.proofs.lemmas.Bool.{cond_both, cases_lt, lt-ltb, le-ltb}
-use Rattle.tasks.specs.declared.limit.Limit.{Limit}
-use Rattle.tasks.specs.declared.limit.Limit.TheVariants.{Phases, Unlimited}
-use Rattle.tasks.specs.Limits.{capped}
+use Rattle.tasks.specs.Limits.{capped, Limit}
 use Rattle.argument.specs.Sums.{sum, on}
 use Rattle.argument.specs.Plans.{Plan}
 use Rattle.argument.specs.Demand.{offered, longer, longest, share}
@@ -21,21 +19,18 @@ many_cons l length many rest = sum_by-cons (λ phase. on (ltb l phase.0) phase.1
 
 none_longer : (phases : List (ℕ × ℕ)) (most l : ℕ) → NoneLonger most phases → most ≤ l → many_longer l phases ≡ 0
 none_longer [] most l h k = refl
-none_longer ((length, many) ∷ rest) most l h k =
-    omega (arith, many_cons l length many rest, none_longer rest most l h.1 k, on_false (ltb l length) many (le-ltb l length (omega (arith, h.0))))
+none_longer ((length, many) ∷ rest) most l h k = grind (arith, many_cons l length many rest, none_longer rest most l)
 
 capped_none : (limit : Limit) → capped limit 0 ≡ 0
-capped_none (Phases m) = omega arith
-capped_none Unlimited = refl
+capped_none limit = grind arith
 
 -- the front first, then what the limit still lets through
 capped_add : (limit : Limit) (m n : ℕ) → capped limit (m + n) ≡ capped limit m + capped (less limit m) n
-capped_add (Phases k) m n = omega arith
-capped_add Unlimited m n = refl
+capped_add limit m n = grind arith
 
 most_up : (m k : ℕ) (phases : List (ℕ × ℕ)) → NoneLonger m phases → m ≤ k → NoneLonger k phases
 most_up m k [] h l = tt
-most_up m k ((length, many) ∷ rest) h l = (omega (arith, h.0), most_up m k rest h.1 l)
+most_up m k (phase ∷ rest) h l = grind (arith, most_up m k rest)
 
 -- tick by tick of length
 by_layers : (phases : List (ℕ × ℕ)) (limit : Limit) (most : ℕ) → Falling phases → NoneLonger most phases
@@ -56,15 +51,15 @@ by_layers ((length, many) ∷ rest) limit most f m =
     each l _ =
         elim (cases_lt l length) [
           | inl b ↦
-              ap (capped limit) (many_cons l length many rest ∙ ap (λ n. n + many_longer l rest) (on_true (ltb l length) many (lt-ltb l length b)))
+              ap (capped limit) (many_cons l length many rest ∙ ap (λ n. n + many_longer l rest) (on_true _ many (lt-ltb _ _ b)))
               ∙ capped_add limit many (many_longer l rest)
-              ∙ ap (λ n. n + capped (less limit many) (many_longer l rest)) (sym (on_true (ltb l length) (capped limit many) (lt-ltb l length b)))
+              ∙ ap (λ n. n + capped (less limit many) (many_longer l rest)) (sym (on_true _ (capped limit many) (lt-ltb _ _ b)))
           | inr b ↦
               let z = none_longer rest length l f.0 b in
-              let y : many_longer l ((length, many) ∷ rest) ≡ 0 = omega (arith, many_cons l length many rest, on_false (ltb l length) many (le-ltb l length b), z) in
+              let y : many_longer l ((length, many) ∷ rest) ≡ 0 = omega (arith, many_cons l length many rest, on_false _ many (le-ltb _ _ b), z) in
               omega (
                 arith,
-                on_false (ltb l length) (capped limit many) (le-ltb l length b),
+                on_false _ (capped limit many) (le-ltb _ _ b),
                 ap (capped limit) y,
                 ap (capped (less limit many)) z,
                 capped_none limit,
@@ -78,8 +73,7 @@ layers_more plan core w limit extra =
     omega (
       arith,
       sum_split (longest plan) extra (λ l. capped limit (longer plan core w l)),
-      sum_zero extra (λ l. capped limit (longer plan core w (longest plan + l)))
-          (λ l _. ap (capped limit) (longer_none plan core w (longest plan + l) (omega arith)) ∙ capped_none limit),
+      sum_zero extra (λ l. capped limit (longer plan core w (longest plan + l))) (λ l _. grind (arith, longer_none, capped_none)),
     )
 
 most : List (ℕ × ℕ) → ℕ
@@ -89,7 +83,7 @@ most ((length, many) ∷ rest) = max length (most rest)
 none_above_most : (phases : List (ℕ × ℕ)) → NoneLonger (most phases) phases
 unfolding most
 none_above_most [] = tt
-none_above_most ((length, many) ∷ rest) = (omega arith, most_up (most rest) (max length (most rest)) rest (none_above_most rest) (omega arith))
+none_above_most ((length, many) ∷ rest) = grind (arith, most_up, none_above_most rest)
 
 pub longest_first : LongestFirstReachesTheShare
 longest_first plan core w limit phases falling offers =
@@ -106,7 +100,7 @@ offers_below_lem plan core w l (suc n) =
     cond_both (eqb (plan.row n).core core) (((plan.row n).a, k) ∷ ((plan.row n).r, k) ∷ rest) rest
     (λ phases. many_longer l phases ≡ sum n each + each n)
     (λ _. omega (arith, many_cons l (plan.row n).a k (((plan.row n).r, k) ∷ rest), many_cons l (plan.row n).r k rest, offers_below_lem plan core w l n))
-    (λ e. let none : k ≡ 0 = on_false (eqb (plan.row n).core core) _ e in
+    (λ e. let none : k ≡ 0 = on_false _ _ e in
     omega (arith, offers_below_lem plan core w l n, none, on_le (ltb l (plan.row n).a) k, on_le (ltb l (plan.row n).r) k))
   where
     k : ℕ

@@ -1,30 +1,21 @@
 -- Step 7: whose turns delay the core, how many, and for how long.
-use Rattle.std.proofs.Common.{◌≡◌, ℕ, zero, suc, ◌+◌, ◌-◌, ◌*◌, ◌<◌, ◌≤◌, Bool, true, false, not, ◌&&◌, eqb, ltb, sym, refl, ap, ◌∙◌, subst, inl, inr, mul-le-mul_left, arith}
-use Rattle.std.proofs.lemmas.Bool.{cases_lt, cases_Bool, and_parts, eqb-true, not_from_false, lt-ltb, ltb-true}
-use Rattle.tasks.specs.declared.limit.Limit.{Limit}
-use Rattle.tasks.specs.declared.limit.Limit.TheVariants.{Phases, Unlimited}
-use Rattle.tasks.specs.Limits.{Within, times}
+use Rattle.std.proofs.Common.{◌≡◌, ℕ, zero, suc, ◌+◌, ◌-◌, ◌*◌, ◌<◌, ◌≤◌, Bool, true, ◌&&◌, eqb, ltb, sym, ap, ◌∙◌, subst, inl, inr, mul-le-mul_left, arith, Some, None}
+use Rattle.std.proofs.lemmas.Bool.{cases_Bool, not_from_false}
+use Rattle.tasks.specs.Limits.{Within, times, Limit}
 use Rattle.argument.specs.Sums.{sum, on, ceil}
 use Rattle.argument.specs.General.{AtMostOthers, Task, Plan, Log, task_of, core_of, joins, meets, met, others, turns, offered, Lawful}
 use Rattle.argument.proofs.Sums.{sum_zero, sum_le, sum_eq, sum_mul, sum_swap, sum_point, sum_same}
-use Rattle.argument.proofs.Counts.{on_le, on_true, on_false}
-use Rattle.argument.proofs.Exchange.{on_and, on_mul, on_mono, sum_on, sum_single}
-use Rattle.argument.proofs.Shares.{within_less}
+use Rattle.argument.proofs.Counts.{on_true}
+use Rattle.argument.proofs.Exchange.{on_mono, sum_on, sum_single}
+use Rattle.argument.proofs.Limits.{within_less}
 use Rattle.argument.proofs.Cover.{counts, holds, holds_parts, counts_same, len, joins_turn, joins_end}
 use Rattle.argument.proofs.OwnTicks.{task_count, counts_turns}
 
 on_comm : (p q : Bool) (x : ℕ) → on p (on q x) ≡ on q (on p x)
-on_comm true q x = refl
-on_comm false true x = refl
-on_comm false false x = refl
+on_comm p q x = grind arith
 
 on_one : (p : Bool) (x : ℕ) → on p 1 * x ≡ on p x
-on_one true x = omega arith
-on_one false x = omega arith
-
-on_scale : (p : Bool) (x l : ℕ) → on p (x * l) ≡ l * on p x
-on_scale true x l = omega arith
-on_scale false x l = omega arith
+on_one p x = grind arith
 
 -- the sum over jobs, each over its task's turns, is the sum over tasks and turns
 pub regroup : (n m : ℕ) (task N : ℕ → ℕ) (B : ℕ → ℕ → Bool) (φ : ℕ → ℕ → ℕ) → ((k : ℕ) → k < n → task k < m)
@@ -39,7 +30,7 @@ regroup n m task N B φ known =
     G k u = sum (N u) (λ x. on (B k x) (φ u x))
 
     one : (k u x : ℕ) → on (eqb (task k) u) (on (B k x) (φ u x)) ≡ φ u x * on (eqb (task k) u && B k x) 1
-    one k u x = sym (on_and (eqb (task k) u) (B k x) (φ u x)) ∙ on_mul (eqb (task k) u && B k x) (φ u x)
+    one k u x = grind arith
 
     each : (u : ℕ) → u < m → sum n (λ k. on (eqb (task k) u) (G k u)) ≡ sum (N u) (λ x. φ u x * sum n (λ k. on (eqb (task k) u && B k x) 1))
     each u l =
@@ -52,20 +43,8 @@ regroup n m task N B φ known =
 
 -- only the first m count
 pub truncate : (N m : ℕ) (p : ℕ → Bool) (f : ℕ → ℕ) → m ≤ N → sum N (λ x. on (ltb x m && p x) (f x)) ≡ sum m (λ x. on (p x) (f x))
-truncate zero zero p f l = refl
-truncate zero (suc m) p f l = omega arith
-truncate (suc N) m p f l =
-    elim (cases_lt N m) [
-      | inr b ↦ omega (arith, truncate N m p f b, on_false (ltb N m && p N) (f N) (past b))
-      | inl b ↦ ap (λ z. sum z (λ x. on (ltb x m && p x) (f x))) (whole b)
-          ∙ sum_eq m (λ x. on (ltb x m && p x) (f x)) (λ x. on (p x) (f x)) (λ x h. ap (λ z. on (z && p x) (f x)) (lt-ltb x m h))
-    ]
-  where
-    past : m ≤ N → (ltb N m && p N) ≡ false
-    past b = grind arith
-
-    whole : N < m → suc N ≡ m
-    whole b = omega arith
+truncate zero m p f l = grind arith
+truncate (suc N) m p f l = grind (arith, truncate N m p f, sum_eq)
 
 module _ (group : ℕ → ℕ → Bool) (limits : ℕ → ℕ → Limit) (plan : Plan) (log : Log) (spacings : (u : ℕ) → u < plan.size → 1 ≤ (plan.task u).spacing)
     (law : Lawful group limits plan log) (i : Task) (t0 blocker w : ℕ)
@@ -73,21 +52,12 @@ module _ (group : ℕ → ℕ → Bool) (limits : ℕ → ℕ → Limit) (plan :
   -- a turn lies in its job
   joins_after : (k : ℕ) → k < log.size → (x : ℕ) → x ≤ (log.job k).stays → (log.job k).start ≤ joins (log.job k) x
   joins_after k l zero h = (law.possible k l).begins
-  joins_after k l (suc x) h =
-      let p = law.possible k l in
-      let m : x < (log.job k).stays = h in
-      omega (arith, joins_after k l x (omega arith), joins_turn (log.job k) x m, p.waits x m, p.serves x m, p.goes_on x m)
+  joins_after k l (suc x) h = let p = law.possible k l in grind (arith, joins_after k l x, joins_turn (log.job k) x, p.waits x, p.serves x, p.goes_on x)
 
   -- d turns before the last
   joins_before : (k : ℕ) → k < log.size → (d x : ℕ) → x + d ≡ (log.job k).stays → joins (log.job k) x ≤ (log.job k).end
-  joins_before k l zero x h = omega (arith, joins_end (log.job k), ap (joins (log.job k)) same)
-    where
-      same : x ≡ (log.job k).stays
-      same = omega arith
-  joins_before k l (suc d) x h =
-      let p = law.possible k l in
-      let m : x < (log.job k).stays = omega arith in
-      omega (arith, joins_before k l d (suc x) (omega arith), joins_turn (log.job k) x m, p.waits x m, p.serves x m, p.goes_on x m)
+  joins_before k l zero x h = grind (arith, joins_end (log.job k))
+  joins_before k l (suc d) x h = let p = law.possible k l in grind (arith, joins_before k l d (suc x), joins_turn (log.job k) x, p.waits x, p.serves x, p.goes_on x)
 
   lies_in : (k : ℕ) → k < log.size → (x : ℕ) → x < (log.job k).stays
       → (((log.job k).stay x).ended ≤ (log.job k).end) × ((log.job k).release ≤ ((log.job k).stay x).granted)
@@ -100,15 +70,7 @@ module _ (group : ℕ → ℕ → Bool) (limits : ℕ → ℕ → Limit) (plan :
   -- whose: the releases lie in a stretch of w + reach
   whose : (k : ℕ) → k < log.size → (x : ℕ) → x < (log.job k).stays → holds plan log i t0 blocker w k x ≡ true
       → (t0 ≤ (log.job k).release + (task_of plan (log.job k)).reach) × ((log.job k).release + (task_of plan (log.job k)).reach < t0 + (w + (task_of plan (log.job k)).reach))
-  whose k l x m e =
-      let h = (holds_parts plan log i t0 blocker w k x e).2 in
-      let o = lies_in k l x m in (
-        elim (cases_lt ((log.job k).release + (task_of plan (log.job k)).reach) t0) [
-          | inl b ↦ let late = punctual k l (omega arith) in omega (arith, h.to, o.0)
-          | inr r ↦ r
-        ],
-        omega (arith, h.from, o.1),
-      )
+  whose k l x m e = let h = (holds_parts plan log i t0 blocker w k x e).2 in grind (arith, lies_in k l x m, punctual k l)
 
   -- turn x of job k is there, and holds the core up
   abbrev B : ℕ → ℕ → Bool
@@ -122,34 +84,12 @@ module _ (group : ℕ → ℕ → Bool) (limits : ℕ → ℕ → Limit) (plan :
       elim (cases_Bool (eqb (plan.task u).core i.core)) [
         | inr e ↦ omega (
           arith,
-          on_true (not (eqb (plan.task u).core i.core)) (ceil (w + (plan.task u).reach) (plan.task u).spacing) (not_from_false (eqb (plan.task u).core i.core) e),
-          task_count group limits plan log spacings law u known (λ k. eqb (log.job k).task u && B k x) (plan.task u).reach t0 (w + (plan.task u).reach) facts,
+          on_true _ (ceil (w + (plan.task u).reach) (plan.task u).spacing) (not_from_false _ e),
+          task_count group limits plan log spacings law u known (λ k. eqb (log.job k).task u && B k x) (plan.task u).reach t0 (w + (plan.task u).reach)
+              (λ k l e. grind (arith, whose k l x)),
         )
-        | inl n ↦ omega (arith, sum_zero log.size (λ k. on (eqb (log.job k).task u && B k x) 1) (none n))
+        | inl n ↦ omega (arith, sum_zero log.size (λ k. on (eqb (log.job k).task u && B k x) 1) (λ k l. grind (arith, holds_parts plan log i t0 blocker w k x)))
       ]
-    where
-      parts : (k : ℕ) → (eqb (log.job k).task u && B k x) ≡ true → ((log.job k).task ≡ u) × (x < (log.job k).stays) × (holds plan log i t0 blocker w k x ≡ true)
-      parts k e =
-          let p = and_parts (eqb (log.job k).task u) (B k x) e in
-          let q = and_parts (ltb x (log.job k).stays) (holds plan log i t0 blocker w k x) p.1 in
-          (eqb-true (log.job k).task u p.0, ltb-true x (log.job k).stays q.0, q.1)
-
-      facts : (k : ℕ) → k < log.size → (eqb (log.job k).task u && B k x) ≡ true
-          → ((log.job k).task ≡ u) × (t0 ≤ (log.job k).release + (plan.task u).reach) × ((log.job k).release + (plan.task u).reach < t0 + (w + (plan.task u).reach))
-      facts k l e =
-          let p = parts k e in
-          let d = ap (λ x. (plan.task x).reach) p.0 in
-          let s = whose k l x p.1 p.2 in
-          (p.0, omega (arith, s, d), omega (arith, s, d))
-
-      none : eqb (plan.task u).core i.core ≡ true → (k : ℕ) → k < log.size → on (eqb (log.job k).task u && B k x) 1 ≡ 0
-      none n k l =
-          elim (cases_Bool (eqb (log.job k).task u && B k x)) [
-            | inr no' ↦ on_false (eqb (log.job k).task u && B k x) 1 no'
-            | inl e ↦
-                let p = parts k e in
-                absurd ((holds_parts plan log i t0 blocker w k x p.2).2.other (ap (λ v. (plan.task v).core) p.0 ∙ eqb-true (plan.task u).core i.core n))
-          ]
 
   fewer : (k : ℕ) → k < log.size → (log.job k).stays ≤ (plan.task (log.job k).task).stays
   fewer k l = (law.possible k l).few
@@ -178,18 +118,7 @@ module _ (group : ℕ → ℕ → Bool) (limits : ℕ → ℕ → Limit) (plan :
     c j = counts plan log i t0 blocker w j
 
     union : (k y : ℕ) → holds plan log i t0 blocker w k y ≡ true → 1 ≤ sum log.size (λ j. on (c j) (hit j k y))
-    union k y e =
-        let f = holds_parts plan log i t0 blocker w k y e in
-        let j = f.0 in
-        let x = f.1 in
-        let h = f.2 in
-        omega (
-          arith,
-          sum_point log.size (λ j. on (c j) (hit j k y)) j h.known,
-          on_true (c j) (hit j k y) h.counted,
-          sum_point (log.job j).stays (λ x. on (meets ((log.job j).stay x) ((log.job k).stay y)) 1) x h.turn,
-          on_true (meets ((log.job j).stay x) ((log.job k).stay y)) 1 h.met,
-        )
+    union k y e = let f = holds_parts plan log i t0 blocker w k y e in grind (arith, sum_point log.size (λ j. on (c j) (hit j k y)) f.0, sum_point (log.job f.0).stays (λ x. on (meets ((log.job f.0).stay x) ((log.job k).stay y)) 1) f.1)
 
     -- of one k: over the jobs that count
     one_k : (k : ℕ) → sum (log.job k).stays (λ y. on (holds plan log i t0 blocker w k y) (on (o k) 1))
@@ -212,11 +141,7 @@ module _ (group : ℕ → ℕ → Bool) (limits : ℕ → ℕ → Limit) (plan :
         U y = sum log.size (λ j. on (c j) (hit j k y))
 
         each : (y : ℕ) → y < S → on (holds plan log i t0 blocker w k y) (on (o k) 1) ≤ on (o k) (U y)
-        each y _ =
-            elim (cases_Bool (holds plan log i t0 blocker w k y)) [
-              | inr n ↦ omega (arith, on_false (holds plan log i t0 blocker w k y) (on (o k) 1) n)
-              | inl e ↦ omega (arith, on_le (holds plan log i t0 blocker w k y) (on (o k) 1), on_mono (o k) 1 (U y) (λ _. union k y e))
-            ]
+        each y _ = grind (arith, union k y)
 
         turned : sum S U ≡ sum log.size (λ j. on (c j) (sum (log.job j).stays (λ x. hits j x k)))
         turned =
@@ -227,10 +152,12 @@ module _ (group : ℕ → ℕ → Bool) (limits : ℕ → ℕ → Limit) (plan :
 
     -- of one j: what its waits meet
     one_j : (j : ℕ) → sum log.size (λ k. on (o k) (sum (log.job j).stays (λ x. hits j x k))) ≡ sum (log.job j).stays (λ x. met group plan log i.core ((log.job j).stay x) g)
-    one_j j =
-        sum_eq log.size (λ k. on (o k) (sum (log.job j).stays (λ x. hits j x k))) (λ k. sum (log.job j).stays (λ x. on (o k) (hits j x k)))
-        (λ k _. sym (sum_on (log.job j).stays (o k) (λ x. hits j x k)))
-        ∙ sum_swap log.size (log.job j).stays (λ k x. on (o k) (hits j x k))
+    one_j j = grind (
+      arith,
+      sum_eq log.size (λ k. on (o k) (sum (log.job j).stays (λ x. hits j x k))) (λ k. sum (log.job j).stays (λ x. on (o k) (hits j x k))),
+      sum_on (log.job j).stays,
+      sum_swap log.size (log.job j).stays (λ k x. on (o k) (hits j x k)),
+    )
 
     at_most : (l : ℕ) → ((j : ℕ) → j < log.size → c j ≡ true → (x : ℕ) → x < (log.job j).stays → met group plan log i.core ((log.job j).stay x) g ≤ l)
         → sum log.size (λ k. sum (log.job k).stays (λ y. on (holds plan log i t0 blocker w k y) (on (o k) 1))) ≤ turns plan i w * l
@@ -251,17 +178,13 @@ module _ (group : ℕ → ℕ → Bool) (limits : ℕ → ℕ → Limit) (plan :
         V j k = on (o k) (sum (log.job j).stays (λ x. hits j x k))
 
         job : (j : ℕ) → j < n → sum n (λ k. on (c j) (V j k)) ≤ l * on (c j) (log.job j).stays
-        job j q = omega (
+        job j q = grind (
           arith,
+          one_j j,
+          most j q,
           sum_on n (c j) (V j),
-          on_scale (c j) (log.job j).stays l,
-          on_mono (c j) (sum n (V j)) ((log.job j).stays * l)
-              (λ e. omega (
-                arith,
-                one_j j,
-                sum_same (log.job j).stays l,
-                sum_le (log.job j).stays (λ x. met group plan log i.core ((log.job j).stay x) g) (λ _. l) (most j q e),
-              )),
+          sum_same (log.job j).stays l,
+          sum_le (log.job j).stays (λ x. met group plan log i.core ((log.job j).stay x) g) (λ _. l),
         )
 
     few : Within (times (turns plan i w) (limits i.core g)) (sum log.size (λ k. sum (log.job k).stays (λ y. on (holds plan log i t0 blocker w k y) (on (o k) 1))))
@@ -272,8 +195,8 @@ module _ (group : ℕ → ℕ → Bool) (limits : ℕ → ℕ → Limit) (plan :
 
         go : (b : Limit) → ((j : ℕ) → j < log.size → c j ≡ true → (x : ℕ) → x < (log.job j).stays → Within b (met group plan log i.core ((log.job j).stay x) g))
             → Within (times (turns plan i w) b) (sum log.size (λ k. sum (log.job k).stays (λ y. on (holds plan log i t0 blocker w k y) (on (o k) 1))))
-        go (Phases l) h = at_most l h
-        go Unlimited h = tt
+        go (Some l) h = at_most l h
+        go None h = tt
 
     few_chosen : Within (times (turns plan i w) (limits i.core g)) (sum plan.size (λ u. on (others group i.core g (plan.task u).core) (sum (plan.task u).stays (chosen u))))
     few_chosen = within_less (times (turns plan i w) (limits i.core g)) (sum plan.size (λ u. on (p u) (sum (plan.task u).stays (chosen u))))

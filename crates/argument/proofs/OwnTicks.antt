@@ -1,14 +1,14 @@
 -- Step 6: own ticks, and how many turns count.
-use Rattle.std.proofs.Common.{◌≡◌, ℕ, zero, suc, ◌+◌, ◌-◌, ◌*◌, ◌<◌, ◌≤◌, Bool, true, false, ◌&&◌, eqb, ◌⊎◌, sym, refl, ap, ◌∙◌, subst, inl, inr, mul-le-mul_left, arith}
-use Rattle.std.proofs.lemmas.Bool.{cases_Bool, and_parts, and_from, eqb-true, both_ways}
-use Rattle.tasks.specs.declared.limit.Limit.{Limit}
+use Rattle.std.proofs.Common.{◌≡◌, ℕ, zero, suc, ◌+◌, ◌-◌, ◌*◌, ◌<◌, ◌≤◌, Bool, true, ◌&&◌, eqb, ◌⊎◌, refl, inl, inr, mul-le-mul_left, arith}
+use Rattle.std.proofs.lemmas.Bool.{cases_Bool}
+use Rattle.tasks.specs.Limits.{Limit}
 use Rattle.argument.specs.Sums.{sum, on, ceil, greatest}
 use Rattle.argument.specs.General.{Task, Plan, Log, task_of, joins, level, lower, jobs, block, own, turns, Possible, Lawful}
 use Rattle.argument.proofs.Sums.{sum_zero, sum_le, sum_lt, sum_add}
-use Rattle.argument.proofs.Counts.{within, on_true, on_false, within_from, spacing, ceil_covers}
-use Rattle.argument.proofs.Exchange.{on_or, on_mono, on_sub, exchange, one_sum, greatest_point}
+use Rattle.argument.proofs.Counts.{within, on_true, spacing, ceil_covers}
+use Rattle.argument.proofs.Exchange.{on_mono, exchange, one_sum, greatest_point}
 use Rattle.argument.proofs.BusyWindow.{Level}
-use Rattle.argument.proofs.Cover.{inside, blocks, counts, inside_parts, inside_from, own_in, own_in_le, clipped, joins_end}
+use Rattle.argument.proofs.Cover.{inside, blocks, counts, inside_from, own_in, own_in_le, clipped, joins_end}
 
 module _ (group : ℕ → ℕ → Bool) (limits : ℕ → ℕ → Limit) (plan : Plan) (log : Log) (spacings : (u : ℕ) → u < plan.size → 1 ≤ (plan.task u).spacing) (law : Lawful group limits plan log) where
   -- jobs of one task whose releases, moved by d, lie in a stretch of `len` moments
@@ -30,27 +30,13 @@ module _ (group : ℕ → ℕ → Bool) (limits : ℕ → ℕ → Limit) (plan :
 
       apart : (j k : ℕ) → j < log.size → k < log.size → F j ≡ true → F k ≡ true → (j ≡ k → ⊥)
           → ((log.job j).release + d + T ≤ (log.job k).release + d) ⊎ ((log.job k).release + d + T ≤ (log.job j).release + d)
-      apart j k a b fj fk ne =
-          let tj = (facts j a fj).0 in
-          let e = ap (λ x. (plan.task x).spacing) tj in
-          elim (law.spaced j k a b ne (tj ∙ sym (facts k b fk).0)) [
-            | inl h ↦ inl (omega (arith, h, e))
-            | inr h ↦ inr (omega (arith, h, e))
-          ]
+      apart j k a b fj fk ne = grind arith
 
       each : (k : ℕ) → k < log.size → on (F k) 1 ≤ on (F k && within lo (lo + ceil len T * T) ((log.job k).release + d)) 1
-      each k l = on_sub (F k) (F k && within lo (lo + ceil len T * T) ((log.job k).release + d)) 1
-          (λ e. and_from (F k) (within lo (lo + ceil len T * T) ((log.job k).release + d)) e
-          (within_from lo (lo + ceil len T * T) ((log.job k).release + d) (facts k l e).1 (omega (arith, (facts k l e).2, covers))))
+      each k l = grind arith
 
   pub job_cost : (t0 w k : ℕ) → k < log.size → own_in t0 w (log.job k) ≤ (task_of plan (log.job k)).cost
-  job_cost t0 w k l =
-      omega (
-        arith,
-        own_in_le t0 w (log.job k),
-        (law.possible k l).owns,
-        sum_le (log.job k).stays (clipped (t0 + w) (log.job k)) (λ x. joins (log.job k) (suc x) - ((log.job k).stay x).granted) (λ x _. omega arith),
-      )
+  job_cost t0 w k l = grind (arith, own_in_le, sum_le)
 
   pub late_cost : (t0 w k : ℕ) → k < log.size → t0 + w < (log.job k).end → own_in t0 w (log.job k) < (task_of plan (log.job k)).cost
   late_cost t0 w k l late = go (log.job k).stays refl
@@ -62,26 +48,16 @@ module _ (group : ℕ → ℕ → Bool) (limits : ℕ → ℕ → Limit) (plan :
       full x = joins (log.job k) (suc x) - ((log.job k).stay x).granted
 
       go : (m : ℕ) → (log.job k).stays ≡ m → own_in t0 w (log.job k) < (task_of plan (log.job k)).cost
-      go zero e =
-          omega (
-            arith,
-            own_in_le t0 w (log.job k),
-            p.owns,
-            p.lasts,
-            joins_end (log.job k),
-            ap (joins (log.job k)) e,
-            sum_le (log.job k).stays (clipped (t0 + w) (log.job k)) full (λ x _. omega arith),
-          )
-      go (suc m) e =
-          let inner : m < (log.job k).stays = omega arith in
-          let last : joins (log.job k) (suc m) ≡ (log.job k).end = sym (ap (joins (log.job k)) e) ∙ joins_end (log.job k) in
-          omega (
-            arith,
-            own_in_le t0 w (log.job k),
-            p.owns,
-            sum_lt (log.job k).stays (clipped (t0 + w) (log.job k)) full (λ x _. omega arith) m inner
-                (omega (arith, last, p.serves m inner, p.goes_on m inner)),
-          )
+      go zero e = grind (arith, own_in_le t0 w (log.job k), p.owns, p.lasts, joins_end (log.job k), sum_le (log.job k).stays (clipped (t0 + w) (log.job k)) full)
+      go (suc m) e = grind (
+        arith,
+        own_in_le t0 w (log.job k),
+        p.owns,
+        joins_end (log.job k),
+        p.serves m,
+        p.goes_on m,
+        sum_lt (log.job k).stays (clipped (t0 + w) (log.job k)) full,
+      )
 
   module _ (i : Task) (t0 blocker w : ℕ) where
     pub inside_count : (u : ℕ) → u < plan.size
@@ -90,31 +66,12 @@ module _ (group : ℕ → ℕ → Bool) (limits : ℕ → ℕ → Limit) (plan :
         elim (cases_Bool (level i (plan.task u))) [
           | inl y ↦ omega (
             arith,
-            on_true (level i (plan.task u)) (ceil (w + (plan.task u).delay) (plan.task u).spacing) y,
-            task_count u known (λ k. inside plan log i t0 w k && eqb (log.job k).task u) (plan.task u).delay t0 (w + (plan.task u).delay) facts,
+            on_true _ (ceil (w + (plan.task u).delay) (plan.task u).spacing) y,
+            task_count u known (λ k. inside plan log i t0 w k && eqb (log.job k).task u) (plan.task u).delay t0 (w + (plan.task u).delay)
+                (λ k l e. let p = law.possible k l in grind (arith, p.ready_from, p.ready_by)),
           )
-          | inr z ↦ omega (arith, sum_zero log.size (λ k. on (inside plan log i t0 w k && eqb (log.job k).task u) 1) (none z))
+          | inr z ↦ omega (arith, sum_zero log.size (λ k. on (inside plan log i t0 w k && eqb (log.job k).task u) 1) (λ k l. grind arith))
         ]
-      where
-        facts : (k : ℕ) → k < log.size → (inside plan log i t0 w k && eqb (log.job k).task u) ≡ true
-            → ((log.job k).task ≡ u) × (t0 ≤ (log.job k).release + (plan.task u).delay) × ((log.job k).release + (plan.task u).delay < t0 + (w + (plan.task u).delay))
-        facts k l e =
-            let p = and_parts (inside plan log i t0 w k) (eqb (log.job k).task u) e in
-            let q = inside_parts plan log i t0 w k p.0 in
-            let same = eqb-true (log.job k).task u p.1 in
-            let d = ap (λ x. (plan.task x).delay) same in
-            let r = law.possible k l in
-            (same, omega (arith, q.from, r.ready_by, d), omega (arith, q.to, r.ready_from))
-
-        none : level i (plan.task u) ≡ false → (k : ℕ) → k < log.size → on (inside plan log i t0 w k && eqb (log.job k).task u) 1 ≡ 0
-        none z k l =
-            elim (cases_Bool (inside plan log i t0 w k && eqb (log.job k).task u)) [
-              | inr no' ↦ on_false (inside plan log i t0 w k && eqb (log.job k).task u) 1 no'
-              | inl y ↦
-                  let p = and_parts (inside plan log i t0 w k) (eqb (log.job k).task u) y in
-                  let q = and_parts (level i (task_of plan (log.job k))) (within t0 (t0 + w) (log.job k).ready) p.0 in
-                  absurd (both_ways (level i (plan.task u)) z (subst (λ x. level i (plan.task x) ≡ true) (eqb-true (log.job k).task u p.1) q.0))
-            ]
 
     -- what the tasks say, over the jobs inside
     pub inside_sum : (φ : ℕ → ℕ) → sum log.size (λ k. on (inside plan log i t0 w k) (φ (log.job k).task)) ≤ sum plan.size (λ u. φ u * jobs i w (plan.task u))
@@ -127,31 +84,16 @@ module _ (group : ℕ → ℕ → Bool) (limits : ℕ → ℕ → Limit) (plan :
         )
 
     one_blocks : (j k : ℕ) → j < log.size → k < log.size → blocks plan log i blocker j ≡ true → blocks plan log i blocker k ≡ true → j ≡ k
-    one_blocks j k a b ej ek = is_blocker j ej ∙ sym (is_blocker k ek)
-      where
-        is_blocker : (k : ℕ) → blocks plan log i blocker k ≡ true → k ≡ blocker
-        is_blocker k e = eqb-true k blocker (and_parts (eqb k blocker) (lower i (task_of plan (log.job k))) e).0
+    one_blocks j k a b ej ek = grind arith
 
     blocks_sum : (f φ : ℕ → ℕ) → ((k : ℕ) → k < log.size → f k ≤ φ (log.job k).task)
         → sum log.size (λ k. on (blocks plan log i blocker k) (f k)) ≤ greatest plan.size (λ u. on (lower i (plan.task u)) (φ u))
     blocks_sum f φ most = one_sum log.size (greatest plan.size (λ u. on (lower i (plan.task u)) (φ u))) (blocks plan log i blocker) f one_blocks
-        (λ k l e. omega (
-          arith,
-          most k l,
-          greatest_point plan.size (λ u. on (lower i (plan.task u)) (φ u)) (log.job k).task (law.known k l),
-          on_true (lower i (plan.task (log.job k).task)) (φ (log.job k).task)
-              (and_parts (eqb k blocker) (lower i (task_of plan (log.job k))) e).1,
-        ))
+        (λ k l e. grind (arith, most k l, greatest_point plan.size (λ u. on (lower i (plan.task u)) (φ u)) (log.job k).task, law.known k l))
 
     split : (f : ℕ → ℕ) → sum log.size (λ k. on (counts plan log i t0 blocker w k) (f k))
         ≤ sum log.size (λ k. on (inside plan log i t0 w k) (f k)) + sum log.size (λ k. on (blocks plan log i blocker k) (f k))
-    split f =
-        omega (
-          arith,
-          sum_le log.size (λ k. on (counts plan log i t0 blocker w k) (f k)) (λ k. on (inside plan log i t0 w k) (f k) + on (blocks plan log i blocker k) (f k))
-              (λ k l. on_or (inside plan log i t0 w k) (blocks plan log i blocker k) (f k)),
-          sum_add log.size (λ k. on (inside plan log i t0 w k) (f k)) (λ k. on (blocks plan log i blocker k) (f k)),
-        )
+    split f = grind (arith, sum_le log.size (λ k. on (counts plan log i t0 blocker w k) (f k)) (λ k. on (inside plan log i t0 w k) (f k) + on (blocks plan log i blocker k) (f k)), sum_add log.size (λ k. on (inside plan log i t0 w k) (f k)) (λ k. on (blocks plan log i blocker k) (f k)))
 
     -- the waits are at most `turns`
     pub counts_turns : sum log.size (λ k. on (counts plan log i t0 blocker w k) (log.job k).stays) ≤ turns plan i w
@@ -180,7 +122,7 @@ module _ (group : ℕ → ℕ → Bool) (limits : ℕ → ℕ → Limit) (plan :
           sum_lt log.size (λ k. on (inside plan log i t0 w k) (X k)) (λ k. on (inside plan log i t0 w k) (task_of plan (log.job k)).cost)
               (λ k l. on_mono (inside plan log i t0 w k) (X k) (task_of plan (log.job k)).cost (λ _. job_cost t0 w k l))
               q v.known
-              (omega (arith, on_true (inside plan log i t0 w q) (X q) yes', on_true (inside plan log i t0 w q) (task_of plan (log.job q)).cost yes', late_cost t0 w q v.known late)),
+              (omega (arith, on_true _ (X q) yes', on_true _ (task_of plan (log.job q)).cost yes', late_cost t0 w q v.known late)),
         )
       where
         X : ℕ → ℕ

@@ -1,6 +1,5 @@
 -- The box with three tasks: its log by computing, its windows by the search.
-use Rattle.std.proofs.Common.{refl}
-use Rattle.tasks.specs.declared.limit.Limit.TheVariants.{Phases}
+use Rattle.std.proofs.Common.{refl, Some}
 use Rattle.argument.specs.Samples.{box, one_each, favours_0, first_jobs, lone, TheBoxAndItsLogKeepTheLaws, TheBoxUnderTheQueue, TheBoxWithPort0Favoured, TheBoxWithANearerDeadline, TheBoxWithALateTask, ThreeOfFourPhases, ALoneTaskNeedsItsOwnTicks}
 use Rattle.argument.proofs.Checks.{sound_plan, keeps_the_laws}
 use Rattle.argument.proofs.Least.{jumping_settles}
@@ -22,7 +21,7 @@ pub late : TheBoxWithALateTask
 late = (jumping_settles (box 19) one_each 0, jumping_settles (box 19) one_each 2)
 
 pub phases : ThreeOfFourPhases
-phases = (share_greatest (box 50) 1 31 (Phases 3), share_greatest (box 50) 1 31 (Phases 0))
+phases = (share_greatest (box 50) 1 31 (Some 3), share_greatest (box 50) 1 31 (Some 0))
 
 pub one_task : ALoneTaskNeedsItsOwnTicks
 one_task = jumping_settles lone one_each 0

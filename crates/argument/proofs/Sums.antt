@@ -1,31 +1,22 @@
 -- Sums over a range.
-use Rattle.std.proofs.Common.{◌≡◌, ℕ, zero, suc, ◌+◌, ◌*◌, ◌<◌, ◌≤◌, sym, refl, ap, ◌∙◌, subst, inl, inr, arith}
-use Rattle.std.proofs.lemmas.Bool.{cases_lt}
+use Rattle.std.proofs.Common.{◌≡◌, ℕ, zero, suc, ◌+◌, ◌*◌, ◌<◌, ◌≤◌, sym, refl, ap, ◌∙◌, arith}
 use Rattle.argument.specs.Sums.{sum}
-
-pub last : (n q : ℕ) → q < suc n → n ≤ q → q ≡ n
-last n q l m = omega arith
 
 pub sum_zero : (n : ℕ) (f : ℕ → ℕ) → ((k : ℕ) → k < n → f k ≡ 0) → sum n f ≡ 0
 sum_zero zero f h = refl
-sum_zero (suc n) f h = omega (arith, sum_zero n f (λ k l. h k (omega arith)), h n (omega arith))
+sum_zero (suc n) f h = grind (arith, sum_zero n f)
 
 pub sum_le : (n : ℕ) (f g : ℕ → ℕ) → ((k : ℕ) → k < n → f k ≤ g k) → sum n f ≤ sum n g
 sum_le zero f g h = omega arith
-sum_le (suc n) f g h = omega (arith, sum_le n f g (λ k l. h k (omega arith)), h n (omega arith))
+sum_le (suc n) f g h = grind (arith, sum_le n f g)
 
 pub sum_eq : (n : ℕ) (f g : ℕ → ℕ) → ((k : ℕ) → k < n → f k ≡ g k) → sum n f ≡ sum n g
 sum_eq zero f g h = refl
-sum_eq (suc n) f g h = omega (arith, sum_eq n f g (λ k l. h k (omega arith)), h n (omega arith))
+sum_eq (suc n) f g h = grind (arith, sum_eq n f g)
 
 pub sum_lt : (n : ℕ) (f g : ℕ → ℕ) → ((k : ℕ) → k < n → f k ≤ g k) → (q : ℕ) → q < n → f q < g q → sum n f < sum n g
 sum_lt zero f g h q l s = omega arith
-sum_lt (suc n) f g h q l s =
-    let below : (k : ℕ) → k < n → f k ≤ g k = λ k m. h k (omega arith) in
-    elim (cases_lt q n) [
-      | inl m ↦ omega (arith, h n (omega arith), sum_lt n f g below q m s)
-      | inr m ↦ omega (arith, sum_le n f g below, subst (λ x. f x < g x) (last n q l m) s)
-    ]
+sum_lt (suc n) f g h q l s = grind (arith, sum_lt n f g, sum_le n f g)
 
 pub sum_add : (n : ℕ) (f g : ℕ → ℕ) → sum n (λ k. f k + g k) ≡ sum n f + sum n g
 sum_add zero f g = refl
@@ -44,11 +35,7 @@ sum_swap (suc n) m f = omega (arith, sum_swap n m f, sum_add m (λ j. sum n (λ 
 
 pub sum_point : (n : ℕ) (f : ℕ → ℕ) (q : ℕ) → q < n → f q ≤ sum n f
 sum_point zero f q l = omega arith
-sum_point (suc n) f q l =
-    elim (cases_lt q n) [
-      | inl m ↦ omega (arith, sum_point n f q m)
-      | inr m ↦ omega (arith, ap f (last n q l m))
-    ]
+sum_point (suc n) f q l = grind (arith, sum_point n f)
 
 pub sum_split : (n m : ℕ) (f : ℕ → ℕ) → sum (n + m) f ≡ sum n f + sum m (λ k. f (n + k))
 sum_split n zero f = ap (λ x. sum x f) none ∙ omega arith

@@ -1,11 +1,10 @@
 -- Demand: the ticks that can go by while a job of a task waits and runs, and the numbers that cover it. Assumes nothing.
 use Rattle.std.specs.Prelude.{◌≡◌, ℕ, ◌+◌, ◌*◌, ◌<◌, ◌≤◌, max, not, ◌==◌, nat_lt}
 use Rattle.tasks.specs.declared.task.Row.{Row}
-use Rattle.tasks.specs.declared.limit.Limit.{Limit}
 use Rattle.tasks.specs.declared.outcome.Outcome.{Outcome}
 use Rattle.tasks.specs.declared.outcome.Outcome.TheVariants.{Window, Late}
 use Rattle.tasks.specs.Rows.{cost}
-use Rattle.tasks.specs.Limits.{Within, times, capped}
+use Rattle.tasks.specs.Limits.{Within, times, capped, Limit}
 use Rattle.argument.specs.Sums.{sum, greatest, any, on, ceil}
 use Rattle.argument.specs.Plans.{Plan, level, lower}
 

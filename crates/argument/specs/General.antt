@@ -1,8 +1,7 @@
 -- The same argument once more, and once for all: jobs with any number of turns, ready some ticks after their release, and limits on
 -- groups of cores. The plan's own laws and demand are one instance. Assumes nothing.
 use Rattle.std.specs.Prelude.{◌≡◌, ℕ, suc, ◌+◌, ◌-◌, ◌*◌, ◌<◌, ◌≤◌, Bool, cond, not, ◌&&◌, ◌⊎◌, ◌==◌, ◌≢◌, nat_le, nat_lt}
-use Rattle.tasks.specs.declared.limit.Limit.{Limit}
-use Rattle.tasks.specs.Limits.{Within, times}
+use Rattle.tasks.specs.Limits.{Within, times, Limit}
 use Rattle.argument.specs.Sums.{sum, greatest, on, ceil}
 
 -- ---- plans and logs

@@ -1,6 +1,6 @@
 -- The search for a window that jumps from a number of ticks to the demand for it. Assumes nothing.
 use Rattle.std.specs.Prelude.{ℕ, zero, suc, cond, nat_le, nat_lt}
-use Rattle.tasks.specs.declared.limit.Limit.{Limit}
+use Rattle.tasks.specs.Limits.{Limit}
 use Rattle.tasks.specs.declared.outcome.Outcome.{Outcome}
 use Rattle.tasks.specs.declared.outcome.Outcome.TheVariants.{Window, Late}
 use Rattle.argument.specs.Plans.{Plan}

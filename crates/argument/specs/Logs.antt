@@ -2,8 +2,7 @@
 -- Time is counted in ticks: the tick t is the stretch from moment t to moment t + 1.
 use Rattle.std.specs.Prelude.{◌≡◌, ℕ, ◌+◌, ◌<◌, ◌≤◌, Bool, ◌&&◌, ◌⊎◌, List, length, ◌==◌, ◌≢◌, nat_lt, slice_index_or}
 use Rattle.tasks.specs.declared.task.Row.{Row}
-use Rattle.tasks.specs.declared.limit.Limit.{Limit}
-use Rattle.tasks.specs.Limits.{Within}
+use Rattle.tasks.specs.Limits.{Within, Limit}
 use Rattle.argument.specs.Sums.{sum, on}
 use Rattle.argument.specs.Plans.{Plan}
 

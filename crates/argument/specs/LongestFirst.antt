@@ -1,23 +1,21 @@
 -- The longest phases first, of a list of phases: each entry is a length, and how many phases have it. Assumes nothing.
-use Rattle.std.specs.Prelude.{◌≡◌, ℕ, zero, suc, ◌+◌, ◌-◌, ◌*◌, ◌≤◌, cond, List, [], ◌∷◌, sum_by, ◌==◌, nat_lt}
-use Rattle.tasks.specs.declared.limit.Limit.{Limit}
-use Rattle.tasks.specs.declared.limit.Limit.TheVariants.{Phases, Unlimited}
-use Rattle.tasks.specs.Limits.{capped}
+use Rattle.std.specs.Prelude.{◌≡◌, ℕ, zero, suc, ◌+◌, ◌-◌, ◌*◌, ◌≤◌, cond, List, [], ◌∷◌, sum_by, ◌==◌, nat_lt, Some, None}
+use Rattle.tasks.specs.Limits.{capped, Limit}
 use Rattle.argument.specs.Sums.{on}
 use Rattle.argument.specs.Plans.{Plan}
 use Rattle.argument.specs.Demand.{offered, longer}
 
 -- what a limit still lets through after n phases
 abbrev pub less : Limit → ℕ → Limit
-less (Phases m) n = Phases (m - n)
-less Unlimited n = Unlimited
+less (Some m) n = Some (m - n)
+less None n = None
 
 -- the ticks of the phases at the front, as many as the limit lets through
 abbrev pub taken : Limit → List (ℕ × ℕ) → ℕ
 taken limit [] = 0
 taken limit ((length, many) ∷ rest) = length * capped limit many + taken (less limit many) rest
 
--- no phase is longer than this
+-- no phase is longer than this; by recursion, and not as std's All, since `taken` goes phase by phase too
 abbrev pub NoneLonger : ℕ → List (ℕ × ℕ) → Type 0
 NoneLonger most [] = Unit {0}
 NoneLonger most ((length, many) ∷ rest) = (length ≤ most) × NoneLonger most rest

@@ -1,7 +1,6 @@
 -- The box with three tasks on two cores: its plan, its limits, the log of its first jobs, and its windows. Assumes nothing.
-use Rattle.std.specs.Prelude.{ℕ, zero, suc, [], ◌∷◌}
-use Rattle.tasks.specs.declared.limit.Limit.{Limit}
-use Rattle.tasks.specs.declared.limit.Limit.TheVariants.{Phases, Unlimited}
+use Rattle.std.specs.Prelude.{ℕ, zero, suc, [], ◌∷◌, Some, None}
+use Rattle.tasks.specs.Limits.{Limit}
 use Rattle.tasks.specs.declared.outcome.Outcome.{Outcome}
 use Rattle.tasks.specs.declared.outcome.Outcome.TheVariants.{Window, Late}
 use Rattle.argument.specs.Plans.{Plan, plan_of, SoundPlan}
@@ -17,12 +16,12 @@ box deadline = plan_of 2 (
 
 -- the limits of the queue and of round robin with two ports: one phase of the other port before a waiting one
 abbrev pub one_each : ℕ → ℕ → Limit
-one_each waiting other = Phases 1
+one_each waiting other = Some 1
 
 -- the limits of two ports where port 0 is favoured: nothing bounds what it puts before a waiting phase of port 1
 abbrev pub favours_0 : ℕ → ℕ → Limit
-favours_0 zero other = Phases 1
-favours_0 (suc waiting) other = Unlimited
+favours_0 zero other = Some 1
+favours_0 (suc waiting) other = None
 
 -- a row of a log: the place of the task, its release, start, A granted, A end, E end, R granted, end
 abbrev pub log_row : ℕ → ℕ → ℕ → ℕ → ℕ → ℕ → ℕ → ℕ → Job
@@ -59,7 +58,7 @@ TheBoxWithALateTask = Settles (box 19) one_each 0 (Window 25) × Settles (box 19
 
 -- core 1 offers the phases 4, 4, 2, 2 in 31 ticks: of these at most three total 10, and at most none 0
 abbrev pub ThreeOfFourPhases : Type 0
-ThreeOfFourPhases = GreatestTotal (box 50) 1 31 (Phases 3) 10 × GreatestTotal (box 50) 1 31 (Phases 0) 0
+ThreeOfFourPhases = GreatestTotal (box 50) 1 31 (Some 3) 10 × GreatestTotal (box 50) 1 31 (Some 0) 0
 
 -- a single task on a single core
 abbrev pub lone : Plan

@@ -1,4 +1,4 @@
--- Finite sums, the greatest of finitely many numbers, and division rounded up. Assumes nothing.
+-- Finite sums, the greatest of finitely many numbers, and division rounded up: std has the first two of lists only. Assumes nothing.
 use Rattle.std.specs.Prelude.{ℕ, zero, suc, ◌+◌, ◌-◌, ◌/◌, max, Bool, true, false, ◌||◌}
 
 -- f 0 + .. + f (n - 1)
@@ -21,6 +21,6 @@ abbrev pub on : Bool → ℕ → ℕ
 on true n = n
 on false n = 0
 
--- ⌈w / t⌉
+-- ⌈w / t⌉, and 0 where t is 0, at which std's div_ceil is 1 for any w above 0
 abbrev pub ceil : ℕ → ℕ → ℕ
 ceil w t = (w + (t - 1)) / t

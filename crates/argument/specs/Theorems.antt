@@ -1,7 +1,7 @@
 -- What is proved: each statement here stands on the contract of a public function of this crate. Assumes nothing.
 use Rattle.std.specs.Prelude.{◌≡◌, ℕ, ◌+◌, ◌<◌, ◌≤◌, Bool, List}
 use Rattle.std.specs.List.Sorted.{IsPermutation}
-use Rattle.tasks.specs.declared.limit.Limit.{Limit}
+use Rattle.tasks.specs.Limits.{Limit}
 use Rattle.tasks.specs.declared.outcome.Outcome.{Outcome}
 use Rattle.tasks.specs.declared.outcome.Outcome.TheVariants.{Window, Late}
 use Rattle.argument.specs.Plans.{Plan, SoundPlan}

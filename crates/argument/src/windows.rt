@@ -17,11 +17,13 @@ pub fn every_job_ends_within_its_window_in_general()
 {}
 
 // Some job ends in the very last tick of its task's window.
+#[tactic(auto, using(crate::proofs::Witnesses::met_twice))]
 pub fn a_window_can_be_reached()
     ensures { AWindowCanBeReached }
 {}
 
 // A covering number is no window while a task of another core is late.
+#[tactic(auto, using(crate::proofs::Witnesses::late_neighbour))]
 pub fn a_window_alone_is_not_enough()
     ensures { AWindowAloneIsNotEnough }
 {}

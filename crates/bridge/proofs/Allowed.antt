@@ -1,6 +1,5 @@
 -- What a lawful script gives of each job, and of two.
-use Rattle.std.proofs.Common.{◌≡◌, ℕ, ◌+◌, ◌<◌, ◌≤◌, ◌⊎◌, sym, ap, inl, inr, arith}
-use Rattle.std.proofs.lemmas.Bool.{cases_lt}
+use Rattle.std.proofs.Common.{◌≡◌, ℕ, ◌+◌, ◌<◌, ◌≤◌, ◌⊎◌, arith}
 use Rattle.argument.specs.Plans.{Plan}
 use Rattle.bridge.specs.Scripts.{Script, task_at, LawfulScript}
 
@@ -16,16 +15,4 @@ pub record Allowed (P : Plan) (Z : Script) : Type 0 where
       → ((Z.row j).release + (task_at P Z j).spacing ≤ (Z.row k).release) ⊎ ((Z.row k).release + (task_at P Z j).spacing ≤ (Z.row j).release)
 
 pub allowed : (P : Plan) (Z : Script) → LawfulScript P Z → Allowed P Z
-allowed P Z h = record {
-  known = λ k l. (h k l).known;
-  some_a = λ k l. (h k l).some_a;
-  most_a = λ k l. (h k l).most_a;
-  some_e = λ k l. (h k l).some_e;
-  most_e = λ k l. (h k l).most_e;
-  some_r = λ k l. (h k l).some_r;
-  most_r = λ k l. (h k l).most_r;
-  spaced = λ j k a b ne e. elim (cases_lt j k) [
-    | inl l ↦ inl (omega (arith, (h k b).spaced j l e, ap (λ u. (P.row u).spacing) e))
-    | inr l ↦ inr ((h j a).spaced k (omega arith) (sym e))
-  ];
-}
+allowed P Z h = grind arith

@@ -1,11 +1,10 @@
 -- Cells: one that is put, what a phase says of the times, and what a later cell keeps.
-use Rattle.std.proofs.Common.{◌≡◌, ℕ, suc, ◌+◌, ◌<◌, ◌≤◌, ◌⊎◌, sym, refl, subst, inl, inr, arith}
-use Rattle.std.proofs.lemmas.Bool.{cases_eq, eq-eqb, ne_eqb}
+use Rattle.std.proofs.Common.{◌≡◌, ℕ, suc, ◌+◌, ◌<◌, ◌≤◌, ◌⊎◌, refl, arith}
+use Rattle.std.proofs.lemmas.Bool.{eq-eqb, ne_eqb}
 use Rattle.argument.specs.Logs.{Turn, A, R, joined, granted, ended}
-use Rattle.bridge.specs.Moments.{started, fetching, executing, executed, returning, returned}
 use Rattle.bridge.specs.Scripts.{Script}
 use Rattle.bridge.specs.Stages.{number}
-use Rattle.bridge.specs.States.{Cell, put, job_of, blank}
+use Rattle.bridge.specs.States.{Cell, put, job_of}
 
 pub put_at : {X : Type 0} (f : ℕ → X) (k : ℕ) (x : X) → put f k x k ≡ x
 put_at f k x = rw (eq-eqb k k refl) refl
@@ -14,11 +13,7 @@ pub put_off : {X : Type 0} (f : ℕ → X) (k : ℕ) (x : X) (j : ℕ) → (j �
 put_off f k x j ne = rw (ne_eqb j k ne) refl
 
 pub put_all : {X : Type 0} (Q : ℕ → X → Type 0) (f : ℕ → X) (k : ℕ) (x : X) → ((j : ℕ) → (j ≡ k → ⊥) → Q j (f j)) → Q k x → (j : ℕ) → Q j (put f k x j)
-put_all Q f k x others here j =
-    elim (cases_eq j k) [
-      | inl e ↦ subst (λ i. Q i (put f k x i)) (sym e) (subst (Q k) (sym (put_at f k x)) here)
-      | inr ne ↦ subst (Q j) (sym (put_off f k x j ne)) (others j ne)
-    ]
+put_all Q f k x others here j = grind arith
 
 -- the stage of a job, as a number
 abbrev pub phase : Cell → ℕ
@@ -30,8 +25,7 @@ at A = 1
 at R = 4
 
 pub at_some : (x : Turn) → (at x ≡ 1) ⊎ (at x ≡ 4)
-at_some A = inl refl
-at_some R = inr refl
+at_some x = grind arith
 
 -- what the phase of a job says of its times; a, e and r are the longest
 pub record Fits (now release a e r : ℕ) (x : Cell) : Type 0 where
@@ -73,89 +67,30 @@ pub record Later (now : ℕ) (x y : Cell) : Type 0 where
 pub later_same : (now : ℕ) (x : Cell) → Later now x x
 later_same now x = omega arith
 
-module _ (Z : Script) (k now : ℕ) (x y : Cell) (l : Later now x y) where
+module _ (Z : Script) (k : ℕ) {now : ℕ} {x y : Cell} (l : Later now x y) where
   pub joined_same : (t : Turn) → at t ≤ phase x → joined t (job_of Z k y) ≡ joined t (job_of Z k x)
-  joined_same A h = l.start h
-  joined_same R h = l.e_end (omega arith)
+  joined_same t h = grind arith
 
   pub joined_new : (t : Turn) → phase x < at t → at t ≤ phase y → now ≤ joined t (job_of Z k y)
-  joined_new A h i = l.new_start h i
-  joined_new R h i = l.new_join h i
+  joined_new t h i = grind arith
 
   pub granted_same : (t : Turn) → at t < phase x → granted t (job_of Z k y) ≡ granted t (job_of Z k x)
-  granted_same A h = l.a_granted h
-  granted_same R h = l.r_granted h
+  granted_same t h = grind arith
 
   pub granted_new : (t : Turn) → phase x ≤ at t → at t < phase y → now ≤ granted t (job_of Z k y)
-  granted_new A h i = l.new_a (omega arith) i
-  granted_new R h i = l.new_r (omega arith) i
+  granted_new t h i = grind arith
 
   pub ended_same : (t : Turn) → at t < phase x → ended t (job_of Z k y) ≡ ended t (job_of Z k x)
-  ended_same A h = l.a_end h
-  ended_same R h = l.end h
+  ended_same t h = grind arith
 
-module _ (Z : Script) (k now release a e r : ℕ) (x : Cell) (f : Fits now release a e r x) where
-  pub joined_now : (t : Turn) → at t ≤ phase x → joined t (job_of Z k x) ≤ now
-  joined_now A h = f.begun h
-  joined_now R h = f.done_e h
-
+module _ (Z : Script) (k : ℕ) {now release a e r : ℕ} {x : Cell} (f : Fits now release a e r x) where
   pub granted_now : (t : Turn) → at t < phase x → granted t (job_of Z k x) ≤ now
-  granted_now A h = f.got_a h
-  granted_now R h = f.got_r h
-
-  pub serves_now : (t : Turn) → phase x ≡ suc (at t) → now ≤ ended t (job_of Z k x)
-  serves_now A h = f.in_a h
-  serves_now R h = f.in_r h
+  granted_now t h = grind arith
 
   pub ended_now : (t : Turn) → suc (at t) < phase x → ended t (job_of Z k x) ≤ now
-  ended_now A h = f.done_a h
-  ended_now R h = f.done_r h
+  ended_now t h = grind arith
 
-  pub ended_after : (t : Turn) → at t < phase x → granted t (job_of Z k x) < ended t (job_of Z k x)
-  ended_after A h = f.some_a h
-  ended_after R h = f.some_r h
-
--- ---- the six ways on
-
-module _ (now release a e r : ℕ) (x : Cell) (f : Fits now release a e r x) where
-  pub fits_started : phase x ≡ 0 → release ≤ now → Fits now release a e r (started now x)
-  fits_started h l = omega arith
-
-  pub fits_fetching : phase x ≡ 1 → (la le : ℕ) → 1 ≤ la → la ≤ a → 1 ≤ le → le ≤ e → Fits now release a e r (fetching now la le x)
-  fits_fetching h la le i j k l = omega arith
-
-  pub fits_executing : phase x ≡ 2 → x.a_end ≡ now → Fits now release a e r (executing x)
-  fits_executing h i = omega arith
-
-  pub fits_executed : phase x ≡ 3 → x.e_end ≡ now → Fits now release a e r (executed x)
-  fits_executed h i = omega arith
-
-  pub fits_returning : phase x ≡ 4 → (lr : ℕ) → 1 ≤ lr → lr ≤ r → Fits now release a e r (returning now lr x)
-  fits_returning h lr i j = omega arith
-
-  pub fits_returned : phase x ≡ 5 → x.end ≡ now → Fits now release a e r (returned x)
-  fits_returned h i = omega arith
-
-  pub fits_on : (then : ℕ) → now ≤ then → (phase x ≡ 2 → then ≤ x.a_end) → (phase x ≡ 3 → then ≤ x.e_end) → (phase x ≡ 5 → then ≤ x.end) → Fits then release a e r x
-  fits_on then h i j k = omega arith
-
-pub fits_blank : (release a e r : ℕ) → Fits 0 release a e r blank
-fits_blank release a e r = omega arith
-
-pub later_started : (now : ℕ) (x : Cell) → phase x ≡ 0 → Later now x (started now x)
-later_started now x h = omega arith
-
-pub later_fetching : (now : ℕ) (x : Cell) → phase x ≡ 1 → (la le : ℕ) → Later now x (fetching now la le x)
-later_fetching now x h la le = omega arith
-
-pub later_executing : (now : ℕ) (x : Cell) → phase x ≡ 2 → Later now x (executing x)
-later_executing now x h = omega arith
-
-pub later_executed : (now : ℕ) (x : Cell) → phase x ≡ 3 → x.e_end ≡ now → Later now x (executed x)
-later_executed now x h e = omega arith
-
-pub later_returning : (now : ℕ) (x : Cell) → phase x ≡ 4 → (lr : ℕ) → Later now x (returning now lr x)
-later_returning now x h lr = omega arith
-
-pub later_returned : (now : ℕ) (x : Cell) → phase x ≡ 5 → x.end ≡ now → Later now x (returned x)
-later_returned now x h e = omega arith
+-- what is not due before a moment is as it was at that moment
+pub fits_on : {now release a e r : ℕ} {x : Cell} → Fits now release a e r x → (then : ℕ) → now ≤ then
+    → (phase x ≡ 2 → then ≤ x.a_end) → (phase x ≡ 3 → then ≤ x.e_end) → (phase x ≡ 5 → then ≤ x.end) → Fits then release a e r x
+fits_on f then h i j k = omega arith

@@ -1,10 +1,10 @@
 -- When a job asks for a moment, and the soonest that any asks for.
-use Rattle.std.proofs.Common.{◌≡◌, ℕ, zero, suc, ◌<◌, ◌≤◌, min, cond, eqb, ltb, Some, None, Option, sym, refl, ap, ◌∙◌, inl, inr, arith}
-use Rattle.std.proofs.lemmas.Bool.{cases_eq, cases_lt, lt-ltb, le-ltb, ne_eqb}
+use Rattle.std.proofs.Common.{◌≡◌, ℕ, zero, suc, ◌<◌, ◌≤◌, min, cond, eqb, ltb, Some, None, Option, refl, ap, ◌∙◌, inl, inr, arith}
+use Rattle.std.proofs.lemmas.Bool.{cases_eq, cases_lt, lt-ltb}
 use Rattle.bridge.specs.Scripts.{Script}
 use Rattle.bridge.specs.States.{Cell, State}
 use Rattle.bridge.specs.Runs.{at_moment}
-use Rattle.bridge.proofs.Cells.{phase, Fits}
+use Rattle.bridge.proofs.Cells.{phase}
 
 -- when a job will ask for a moment, if it will
 abbrev pub due : ℕ → ℕ → Cell → Option ℕ
@@ -34,50 +34,26 @@ NextOf Z S n None = (k : ℕ) → k < n → due S.now (Z.row k).release (S.cell 
 NextOf Z S n (Some t) = ((k : ℕ) × (k < n) × (due S.now (Z.row k).release (S.cell k) ≡ Some t)) × ((k d : ℕ) → k < n → due S.now (Z.row k).release (S.cell k) ≡ Some d → t ≤ d)
 
 pub next_of : (Z : Script) (S : State) (n : ℕ) → NextOf Z S n (next Z S n)
-next_of Z S zero = λ k l. absurd (nothing k l)
-  where
-    nothing : (k : ℕ) → k < 0 → ⊥
-    nothing k l = omega arith
+next_of Z S zero = λ k l. absurd (omega arith)
 next_of Z S (suc n) = go (next Z S n) (next_of Z S n) (due S.now (Z.row n).release (S.cell n)) refl
   where
     D : ℕ → Option ℕ
     D k = due S.now (Z.row k).release (S.cell k)
 
-    go : (o : Option ℕ) → NextOf Z S n o → (w : Option ℕ) → due S.now (Z.row n).release (S.cell n) ≡ w → NextOf Z S (suc n) (sooner o w)
-    go None h None e = λ k l. elim (cases_eq k n) [
-      | inl u ↦ ap D u ∙ e
-      | inr u ↦ h k (omega arith)
-    ]
-    go None h (Some t) e = (
-      (n, omega arith, e),
-      λ k d l v. elim (cases_eq k n) [
-        | inl u ↦ (let s : t ≡ d = (let w = ap D u in cc) in omega arith)
-        | inr u ↦ (let w = h k (omega arith) in let z : ◌≡◌ {A = ℕ} 0 1 = cc in absurd (omega arith))
-      ],
-    )
+    go : (o : Option ℕ) → NextOf Z S n o → (w : Option ℕ) → D n ≡ w → NextOf Z S (suc n) (sooner o w)
+    go None h None e = λ k l. elim (cases_eq k n) [ inl u ↦ ap D u ∙ e | inr u ↦ h k (omega arith) ]
+    go None h (Some t) e = ((n, omega arith, e), λ k d l v. elim (cases_eq k n) [ inl u ↦ grind (arith, ap D u) | inr u ↦ grind (arith, h k) ])
     go (Some t) h None e = (
       (h.0.0, omega (arith, h.0.1), h.0.2),
-      λ k d l v. elim (cases_eq k n) [
-        | inl u ↦ (let w = ap D u in let z : ◌≡◌ {A = ℕ} 0 1 = cc in absurd (omega arith))
-        | inr u ↦ h.1 k d (omega arith) v
-      ],
+      λ k d l v. elim (cases_eq k n) [ inl u ↦ grind (arith, ap D u) | inr u ↦ h.1 k d (omega arith) v ],
     )
-    go (Some t) h (Some s) e = (who, least)
-      where
-        who : (k : ℕ) × (k < suc n) × (D k ≡ Some (min t s))
-        who = elim (cases_lt t s) [
-          | inl u ↦ (let m : min t s ≡ t = omega arith in (h.0.0, omega (arith, h.0.1), h.0.2 ∙ ap Some (sym m)))
-          | inr u ↦ (let m : min t s ≡ s = omega arith in (n, omega arith, e ∙ ap Some (sym m)))
-        ]
-
-        least : (k d : ℕ) → k < suc n → D k ≡ Some d → min t s ≤ d
-        least k d l v = elim (cases_eq k n) [
-          | inl u ↦ (let w = ap D u in let r : s ≡ d = cc in omega arith)
-          | inr u ↦ omega (arith, h.1 k d (omega arith) v)
-        ]
+    go (Some t) h (Some s) e = (
+      elim (cases_lt t s) [ inl u ↦ (h.0.0, omega (arith, h.0.1), grind (arith, h.0.2)) | inr u ↦ (n, omega arith, grind (arith, e)) ],
+      λ k d l v. elim (cases_eq k n) [ inl u ↦ grind (arith, ap D u) | inr u ↦ omega (arith, h.1 k d (omega arith) v) ],
+    )
 
 pub due_release : (now release : ℕ) (x : Cell) → phase x ≡ 0 → now < release → due now release x ≡ Some release
-due_release now release x e l = rw (e, lt-ltb now release l) refl
+due_release now release x e l = rw (e, lt-ltb _ _ l) refl
 
 pub due_a : (now release : ℕ) (x : Cell) → phase x ≡ 2 → due now release x ≡ Some x.a_end
 due_a now release x e = rw e refl
@@ -96,34 +72,4 @@ pub data Asks (now release : ℕ) (x : Cell) (t : ℕ) : Type 0 where
   for_r : phase x ≡ 5 → x.end ≡ t → Asks now release x t
 
 pub due_asks : (now release : ℕ) (x : Cell) (t : ℕ) → due now release x ≡ Some t → Asks now release x t
-due_asks now release x t h =
-    elim (cases_eq (phase x) 2) [
-      | inl p ↦ for_a p (let u = due_a now release x p in cc)
-      | inr p2 ↦ elim (cases_eq (phase x) 3) [
-        | inl p ↦ for_e p (let u = due_e now release x p in cc)
-        | inr p3 ↦ elim (cases_eq (phase x) 5) [
-          | inl p ↦ for_r p (let u = due_r now release x p in cc)
-          | inr p5 ↦ elim (cases_eq (phase x) 0) [
-            | inl p ↦ elim (cases_lt now release) [
-              | inl l ↦ for_release p l (let u = due_release now release x p l in cc)
-              | inr l ↦ (let u = due_none p l in let z : ◌≡◌ {A = ℕ} 0 1 = cc in absurd (omega arith))
-            ]
-            | inr p0 ↦ (let u = due_else p0 p2 p3 p5 in let z : ◌≡◌ {A = ℕ} 0 1 = cc in absurd (omega arith))
-          ]
-        ]
-      ]
-    ]
-  where
-    due_none : phase x ≡ 0 → release ≤ now → due now release x ≡ None
-    due_none e l = rw (e, le-ltb now release l) refl
-
-    due_else : (phase x ≡ 0 → ⊥) → (phase x ≡ 2 → ⊥) → (phase x ≡ 3 → ⊥) → (phase x ≡ 5 → ⊥) → due now release x ≡ None
-    due_else a b c d = rw (ne_eqb (phase x) 0 a, ne_eqb (phase x) 2 b, ne_eqb (phase x) 3 c, ne_eqb (phase x) 5 d) refl
-
-pub due_after : (now release a e r : ℕ) (x : Cell) → Fits now release a e r x → (t : ℕ) → due now release x ≡ Some t → now ≤ t
-due_after now release a e r x f t h = elim (due_asks now release x t h) [
-  | for_release p l u ↦ omega arith
-  | for_a p u ↦ omega (arith, f.in_a p)
-  | for_e p u ↦ omega (arith, f.in_e p)
-  | for_r p u ↦ omega (arith, f.in_r p)
-]
+due_asks now release x t h = grind arith

@@ -1,6 +1,6 @@
 -- Every tick brings some job nearer to its end, so that every run ends.
-use Rattle.std.proofs.Common.{◌≡◌, ℕ, zero, suc, ◌+◌, ◌<◌, ◌≤◌, Bool, true, false, cond, eqb, leb, ◌⊎◌, List, length, get_or, Some, None, Option, refl, inl, inr, arith}
-use Rattle.std.proofs.lemmas.Bool.{cases_eq, cases_lt}
+use Rattle.std.proofs.Common.{◌≡◌, ℕ, zero, suc, ◌+◌, ◌<◌, ◌≤◌, ◌⊎◌, List, length, get_or, Some, None, Option, refl, inl, inr, arith}
+use Rattle.std.proofs.lemmas.Bool.{cases_lt}
 use Rattle.argument.specs.Sums.{sum}
 use Rattle.argument.specs.Plans.{Plan, SoundPlan}
 use Rattle.argument.specs.Logs.{Turn, A, R}
@@ -17,24 +17,15 @@ use Rattle.bridge.proofs.Kept.{Keeps, keeps}
 use Rattle.bridge.proofs.Staged.{same_stage}
 use Rattle.bridge.proofs.Cells.{phase, at}
 use Rattle.bridge.proofs.Moves.{Inv, Good}
-use Rattle.bridge.proofs.Due.{due, next, NextOf, next_of, for_release, for_a, for_e, for_r, due_asks, due_release, due_a, due_e, due_r}
+use Rattle.bridge.proofs.Due.{due, next, NextOf, next_of, due_asks, due_release, due_e}
 use Rattle.bridge.proofs.Steps.{Settled, settled_moment}
-use Rattle.bridge.proofs.Left.{left, left_0, left_2, left_3, left_5}
+use Rattle.bridge.proofs.Left.{left}
 use Rattle.bridge.proofs.Onward.{Grows, After, after_moment}
 use Rattle.bridge.proofs.Ticks.{core_below, due_later, good_run}
 
-cond_le : (b : Bool) (u v x y : ℕ) → u ≤ x → v ≤ y → cond b u v ≤ cond b x y
-cond_le true u v x y h i = h
-cond_le false u v x y h i = i
-
 -- a tick later no more is left
 left_tick : (now : ℕ) (z : Release) (x : Cell) → left (suc now) z x ≤ left now z x
-left_tick now z x =
-    cond_le (eqb (phase x) 0) _ _ _ _ (omega arith)
-    (cond_le (eqb (phase x) 1) _ _ _ _ (omega arith)
-    (cond_le (leb (phase x) 3) _ _ _ _ (omega arith)
-    (cond_le (eqb (phase x) 4) _ _ _ _ (omega arith)
-    (cond_le (eqb (phase x) 5) _ _ _ _ (omega arith) (omega arith)))))
+left_tick now z x = grind arith
 
 abbrev pub AllOver : Script → State → Type 0
 AllOver Z S = (k : ℕ) → k < Z.size → phase (S.cell k) ≡ 6
@@ -61,39 +52,19 @@ module _ (P : Plan) (Z : Script) (sound : SoundPlan P) (ok : Allowed P Z) (m₀ 
       i = h.fine m kp
 
       asks : (j : ℕ) → j < Z.size → (t : ℕ) → due S.now (Z.row j).release (S.cell j) ≡ Some t → ⊥
-      asks j l t e = let n = none j l in let z : ◌≡◌ {A = ℕ} 0 1 = cc in omega arith
+      asks j l t e = grind arith
 
       serves : (y : Turn) (j : ℕ) → j < Z.size → phase (S.cell j) ≡ suc (at y) → ⊥
-      serves A j l e = asks j l (S.cell j).a_end (due_a S.now (Z.row j).release (S.cell j) e)
-      serves R j l e = asks j l (S.cell j).end (due_r S.now (Z.row j).release (S.cell j) e)
+      serves y j h i = grind arith
 
       waits : (x : Turn) (j : ℕ) → j < Z.size → phase (S.cell j) ≡ at x → ⊥
       waits x j l e = let z = h.busy m kp x j l e in serves z.0 z.1 z.2 z.3
 
       active : (j : ℕ) → j < Z.size → 1 ≤ phase (S.cell j) → phase (S.cell j) ≤ 5 → ⊥
-      active j l u v = elim (cases_eq (phase (S.cell j)) 1) [
-        | inl e ↦ waits A j l e
-        | inr a ↦ elim (cases_eq (phase (S.cell j)) 2) [
-          | inl e ↦ serves A j l e
-          | inr b ↦ elim (cases_eq (phase (S.cell j)) 3) [
-            | inl e ↦ asks j l (S.cell j).e_end (due_e S.now (Z.row j).release (S.cell j) e)
-            | inr c ↦ elim (cases_eq (phase (S.cell j)) 4) [
-              | inl e ↦ waits R j l e
-              | inr d ↦ serves R j l (omega arith)
-            ]
-          ]
-        ]
-      ]
+      active j l u v = grind (arith, waits A j l, waits R j l, serves A j l, serves R j l, asks j l (S.cell j).e_end, due_e S.now (Z.row j).release (S.cell j))
 
       go : (o : Option ℕ) → S.has (core_at P Z k) ≡ o → phase (S.cell k) ≡ 0 → ⊥
-      go None e z = h.acted (core_at P Z k) (core_below P Z sound ok m₀ k l) e k l (record {
-        same = refl;
-        unstarted = z;
-        released = elim (cases_lt S.now (Z.row k).release) [
-          | inr v ↦ v
-          | inl v ↦ absurd (asks k l (Z.row k).release (due_release S.now (Z.row k).release (S.cell k) z v))
-        ];
-      })
+      go None e z = grind (arith, h.acted (core_at P Z k), core_below P Z sound ok m₀ k l, asks k l (Z.row k).release, due_release S.now (Z.row k).release (S.cell k) z)
       go (Some j) e z = let o = i.cores.holds (core_at P Z k) j e in active j o.known o.begun o.going
 
   pub stays_over : (S T : State) → ((j : ℕ) → Grows (S.cell j) (T.cell j)) → (m : Meaning) → Inv P Z m₀.limit T m → AllOver Z S → AllOver Z T
@@ -101,23 +72,10 @@ module _ (P : Plan) (Z : Script) (sound : SoundPlan P) (ok : Allowed P Z) (m₀ 
 
   -- a tick after a moment something less is left
   falls : (S T : State) → After P Z sound ok m₀ S T → (m : Meaning) → Inv P Z m₀.limit T m → (t : ℕ) → NextOf Z T Z.size (Some t) → total_left Z (tick T) < total_left Z T
-  falls S T a m i t n = sum_lt Z.size (λ k. left (suc T.now) (Z.row k) (T.cell k)) (λ k. left T.now (Z.row k) (T.cell k))
-      (λ k l. left_tick T.now (Z.row k) (T.cell k)) q known
-      (elim (due_asks T.now (Z.row q).release (T.cell q) t n.0.2) [
-        | for_release p l u ↦ omega (arith, left_0 T.now (Z.row q) (T.cell q) p, left_0 (suc T.now) (Z.row q) (T.cell q) p)
-        | for_a p u ↦ omega (arith, later, (i.fits q known).some_e (omega arith), left_2 T.now (Z.row q) (T.cell q) p, left_2 (suc T.now) (Z.row q) (T.cell q) p)
-        | for_e p u ↦ omega (arith, later, left_3 T.now (Z.row q) (T.cell q) p, left_3 (suc T.now) (Z.row q) (T.cell q) p)
-        | for_r p u ↦ omega (arith, later, left_5 T.now (Z.row q) (T.cell q) p, left_5 (suc T.now) (Z.row q) (T.cell q) p)
-      ])
-    where
-      q : ℕ
-      q = n.0.0
-
-      known : q < Z.size
-      known = n.0.1
-
-      later : T.now < t
-      later = due_later P Z sound ok m₀ S T a m i q t known n.0.2
+  falls S T a m i t n =
+      let later = due_later P Z sound ok m₀ S T a m i n.0.0 t n.0.1 n.0.2 in
+      sum_lt Z.size (λ k. left (suc T.now) (Z.row k) (T.cell k)) (λ k. left T.now (Z.row k) (T.cell k)) (λ k l. left_tick T.now (Z.row k) (T.cell k)) n.0.0 n.0.1
+      (grind (arith, due_asks T.now (Z.row n.0.0).release (T.cell n.0.0) t n.0.2, i.fits n.0.0 n.0.1))
 
   module _ (ports : m₀.ports ≡ P.cores) (idle : Idle m₀) (cs : List ℕ) where
     abbrev port : ℕ → ℕ

@@ -1,17 +1,15 @@
 -- What is true of all the moments before now, and why it stays true.
-use Rattle.std.proofs.Common.{◌≡◌, ℕ, ◌+◌, ◌<◌, ◌≤◌, true, ◌&&◌, eqb, ltb, ◌⊎◌, sym, inl, inr, arith}
-use Rattle.std.proofs.lemmas.Bool.{cases_lt, and_parts, ltb-true, lt-ltb}
+use Rattle.std.proofs.Common.{◌≡◌, ℕ, ◌+◌, ◌<◌, ◌≤◌, ◌&&◌, eqb, ltb, ◌⊎◌, sym, inl, inr, arith}
+use Rattle.std.proofs.lemmas.Bool.{cases_lt}
 use Rattle.argument.specs.Logs.{Turn, A, R, joined, granted, ended}
 use Rattle.argument.specs.Plans.{Plan}
 use Rattle.argument.specs.Sums.{sum, on}
-use Rattle.bridge.proofs.Cells.{phase}
+use Rattle.bridge.proofs.Cells.{phase, at, Fits, Later, joined_same, joined_new, granted_same, ended_same, granted_now}
 use Rattle.bridge.specs.Scripts.{Script, task_at, core_at}
 use Rattle.bridge.specs.States.{Cell, job_of}
-use Rattle.tasks.specs.Limits.{Within}
-use Rattle.tasks.specs.declared.limit.Limit.{Limit}
-use Rattle.tasks.specs.declared.limit.Limit.TheVariants.{Phases, Unlimited}
-use Rattle.bridge.proofs.Sums.{sum_le, on_mono, on_imp}
-use Rattle.bridge.proofs.Cells.{at, Fits, Later, joined_same, joined_new, granted_same, granted_new, ended_same, granted_now}
+use Rattle.tasks.specs.Limits.{Within, Limit}
+use native.Mathlib.Nat.{eq-zero-or-pos}
+use Rattle.argument.proofs.Limits.{within_less}
 
 abbrev pub FitsAt : Plan → Script → ℕ → ℕ → Cell → Type 0
 FitsAt P Z now k x = Fits now (Z.row k).release (task_at P Z k).a (task_at P Z k).e (task_at P Z k).r x
@@ -65,75 +63,26 @@ pub record Past (P : Plan) (Z : Script) (lim : ℕ → ℕ → Limit) (now : ℕ
       → Within (lim (core_at P Z k) b) (sight P Z f (granted x (job_of Z k (f k))) (joined x (job_of Z k (f k))) b)
   pub alone : (x y : Turn) (j k : ℕ) → j < Z.size → k < Z.size → (j ≡ k → ⊥) → at x < phase (f j) → at y < phase (f k) → Clear Z f x j y k
 
-pub within_le : (l : Limit) (m n : ℕ) → m ≤ n → Within l n → Within l m
-within_le (Phases k) m n h w = omega arith
-within_le Unlimited m n h w = tt
-
 module _ (P : Plan) (Z : Script) (now : ℕ) (f g : ℕ → Cell) (later : (j : ℕ) → Later now (f j) (g j)) where
   pub begun_more : (k t : ℕ) → Begun f k t → Begun g k t
   begun_more k t b = let l = later k in omega arith
 
-  pub held_more : (c t j : ℕ) → t < now → Held P Z f c t j → Held P Z g c t j
-  held_more c t j h b = let l = later j in record {
-    known = b.known;
-    same = b.same;
-    begun = omega arith;
-    from = omega arith;
-    to = λ o. elim (cases_lt (phase (f j)) 6) [ inl u ↦ omega arith | inr u ↦ omega arith ];
-  }
-
   pub carry_more : (c t : ℕ) (y : Turn) (j : ℕ) → Carry P Z f c t y j → Carry P Z g c t y j
-  carry_more c t y j b = let l = later j in record {
-    known = b.known;
-    other = b.other;
-    got = omega arith;
-    from = rw (granted_same Z j now (f j) (g j) l y b.got) b.from;
-    to = rw (ended_same Z j now (f j) (g j) l y b.got) b.to;
-  }
+  carry_more c t y j b = grind arith
 
   pub apart_more : (j k : ℕ) → 1 ≤ phase (f j) → 1 ≤ phase (f k) → Apart f j k → Apart g j k
-  apart_more j k a b s = let l = later j in let m = later k in elim s [
-    | inl h ↦ inl (omega arith)
-    | inr h ↦ inr (omega arith)
-  ]
-
-  pub seen_le : (G J : ℕ) (y : Turn) (j : ℕ) → G ≤ now → seen Z g G J y j ≤ seen Z f G J y j
-  seen_le G J y j h = on_imp _ _ 1 go
-    where
-      go : (ltb (at y) (phase (g j)) && (ltb (granted y (job_of Z j (g j))) G && ltb J (ended y (job_of Z j (g j))))) ≡ true
-          → (ltb (at y) (phase (f j)) && (ltb (granted y (job_of Z j (f j))) G && ltb J (ended y (job_of Z j (f j))))) ≡ true
-      go e =
-          let p = and_parts (ltb (at y) (phase (g j))) (ltb (granted y (job_of Z j (g j))) G && ltb J (ended y (job_of Z j (g j)))) e in
-          let q = and_parts (ltb (granted y (job_of Z j (g j))) G) (ltb J (ended y (job_of Z j (g j)))) p.1 in
-          let i = ltb-true (at y) (phase (g j)) p.0 in
-          let before = ltb-true (granted y (job_of Z j (g j))) G q.0 in
-          elim (cases_lt (at y) (phase (f j))) [
-            | inl u ↦ rw (lt-ltb (at y) (phase (f j)) u, ← granted_same Z j now (f j) (g j) (later j) y u, ← ended_same Z j now (f j) (g j) (later j) y u) p.1
-            | inr u ↦ absurd (omega (arith, granted_new Z j now (f j) (g j) (later j) y u i))
-          ]
+  apart_more j k a b s = grind arith
 
   pub sight_le : (G J b : ℕ) → G ≤ now → sight P Z g G J b ≤ sight P Z f G J b
-  sight_le G J b h = sum_le Z.size (λ j. on (eqb (core_at P Z j) b) (seen Z g G J A j + seen Z g G J R j)) (λ j. on (eqb (core_at P Z j) b) (seen Z f G J A j + seen Z f G J R j))
-      (λ j l. on_mono (eqb (core_at P Z j) b) (seen Z g G J A j + seen Z g G J R j) (seen Z f G J A j + seen Z f G J R j) (omega (arith, seen_le G J A j h, seen_le G J R j h)))
+  sight_le G J b h = grind arith
 
   pub taken_more : (k t : ℕ) → t < now → Begun f k t ⊎ ((j : ℕ) × Held P Z f (core_at P Z k) t j) → Begun g k t ⊎ ((j : ℕ) × Held P Z g (core_at P Z k) t j)
-  taken_more k t h s = elim s [
-    | inl b ↦ inl (begun_more k t b)
-    | inr b ↦ inr (b.0, held_more (core_at P Z k) t b.0 h b.1)
-  ]
+  taken_more k t h s = grind arith
 
   pub carried_more : (x : Turn) (k t : ℕ) → t < now → at x ≤ phase (g k) → joined x (job_of Z k (g k)) ≤ t → (at x < phase (g k) → t < granted x (job_of Z k (g k)))
       → (at x ≤ phase (f k) → joined x (job_of Z k (f k)) ≤ t → (at x < phase (f k) → t < granted x (job_of Z k (f k))) → (y : Turn) × (j : ℕ) × Carry P Z f (core_at P Z k) t y j)
       → (y : Turn) × (j : ℕ) × Carry P Z g (core_at P Z k) t y j
-  carried_more x k t h a b c old =
-      let l = later k in
-      elim (cases_lt (phase (f k)) (at x)) [
-        | inl u ↦ absurd (omega (arith, joined_new Z k now (f k) (g k) l x u a))
-        | inr u ↦
-            let z = old u (omega (arith, joined_same Z k now (f k) (g k) l x u))
-            (λ i. omega (arith, granted_same Z k now (f k) (g k) l x i, c (omega arith))) in
-            (z.0, z.1, carry_more (core_at P Z k) t z.0 z.1 z.2)
-      ]
+  carried_more x k t h a b c old = let l = later k in grind (arith, joined_new Z k l x, joined_same Z k l x, granted_same Z k l x, carry_more (core_at P Z k) t)
 
 -- j starts now
 pub record New (P : Plan) (Z : Script) (g : ℕ → Cell) (j : ℕ) : Type 0 where
@@ -147,71 +96,33 @@ module _ (P : Plan) (Z : Script) (lim : ℕ → ℕ → Limit) (now : ℕ) (f g 
     → Within (lim (core_at P Z k) b) (sight P Z g (granted x (job_of Z k (g k))) (joined x (job_of Z k (g k))) b))
     (new_alone : (x y : Turn) (j k : ℕ) → j < Z.size → k < Z.size → (j ≡ k → ⊥) → phase (f k) ≤ at y → at y < phase (g k) → at x < phase (g j)
     → ended x (job_of Z j (g j)) ≤ granted y (job_of Z k (g k))) where
-  zero_or : (n : ℕ) → (n ≡ 0) ⊎ (1 ≤ n)
-  zero_or n = elim (cases_lt n 1) [ inl a ↦ inl (omega arith) | inr a ↦ inr a ]
-
   pub past_more : Past P Z lim now f → Past P Z lim now g
-  past_more h = record { single = single; right = right; taken = taken; carried = carried; kept = kept; alone = alone }
-    where
-      single : (j k : ℕ) → j < Z.size → k < Z.size → (j ≡ k → ⊥) → core_at P Z j ≡ core_at P Z k → 1 ≤ phase (g j) → 1 ≤ phase (g k) → Apart g j k
-      single j k a b ne same s t =
-          elim (zero_or (phase (f j))) [
-            | inl z ↦ inr ((fresh j a z s).clear k b (λ e. ne (sym e)) (sym same) t)
-            | inr u ↦ elim (zero_or (phase (f k))) [
-              | inl z ↦ inl ((fresh k b z t).clear j a ne same s)
-              | inr v ↦ apart_more P Z now f g later j k u v (h.single j k a b ne same u v)
-            ]
-          ]
-
-      right : (j k : ℕ) → j < Z.size → k < Z.size → core_at P Z j ≡ core_at P Z k → 1 ≤ phase (g j) → (Z.row k).release ≤ (g j).start
-          → Begun g k (g j).start ⊎ Goes P Z j k
-      right j k a b same s r =
-          elim (zero_or (phase (f j))) [
-            | inl z ↦ (fresh j a z s).chosen k b same r
-            | inr u ↦
-                let e = (later j).start u in
-                elim (h.right j k a b same u (rw e at r)) [
-                  | inl o ↦ inl (begun_more P Z now f g later k (g j).start (rw e o))
-                  | inr o ↦ inr o
-                ]
-          ]
-
-      taken : (k t : ℕ) → k < Z.size → t < now → (Z.row k).release ≤ t → Begun g k t ⊎ ((j : ℕ) × Held P Z g (core_at P Z k) t j)
-      taken k t a b r = taken_more P Z now f g later k t b (h.taken k t a b r)
-
-      carried : (x : Turn) (k t : ℕ) → k < Z.size → t < now → at x ≤ phase (g k) → joined x (job_of Z k (g k)) ≤ t
-          → (at x < phase (g k) → t < granted x (job_of Z k (g k))) → (y : Turn) × (j : ℕ) × Carry P Z g (core_at P Z k) t y j
-      carried x k t a b u v w = carried_more P Z now f g later x k t b u v w (h.carried x k t a b)
-
-      kept : (x : Turn) (k b : ℕ) → k < Z.size → b < P.cores → (b ≡ core_at P Z k → ⊥) → at x < phase (g k)
-          → Within (lim (core_at P Z k) b) (sight P Z g (granted x (job_of Z k (g k))) (joined x (job_of Z k (g k))) b)
-      kept x k b a c ne s =
-          elim (cases_lt (at x) (phase (f k))) [
-            | inr z ↦ new_kept x k b a c ne z s
-            | inl u ↦
-                rw (granted_same Z k now (f k) (g k) (later k) x u, joined_same Z k now (f k) (g k) (later k) x (omega arith))
-                (within_le (lim (core_at P Z k) b)
-                (sight P Z g (granted x (job_of Z k (f k))) (joined x (job_of Z k (f k))) b)
-                (sight P Z f (granted x (job_of Z k (f k))) (joined x (job_of Z k (f k))) b)
-                (sight_le P Z now f g later (granted x (job_of Z k (f k))) (joined x (job_of Z k (f k))) b
-                (granted_now Z k now (Z.row k).release (task_at P Z k).a (task_at P Z k).e (task_at P Z k).r (f k) (fits k a) x u))
-                (h.kept x k b a c ne u))
-          ]
-
-      alone : (x y : Turn) (j k : ℕ) → j < Z.size → k < Z.size → (j ≡ k → ⊥) → at x < phase (g j) → at y < phase (g k) → Clear Z g x j y k
-      alone x y j k a b ne s t =
-          elim (cases_lt (at y) (phase (f k))) [
-            | inr u ↦ inl (new_alone x y j k a b ne u t s)
-            | inl v ↦ elim (cases_lt (at x) (phase (f j))) [
-              | inr u ↦ inr (new_alone y x k j b a (λ e. ne (sym e)) u s t)
-              | inl u ↦
-                  let ej = ended_same Z j now (f j) (g j) (later j) x u in
-                  let gj = granted_same Z j now (f j) (g j) (later j) x u in
-                  let ek = ended_same Z k now (f k) (g k) (later k) y v in
-                  let gk = granted_same Z k now (f k) (g k) (later k) y v in
-                  elim (h.alone x y j k a b ne u v) [
-                    | inl w ↦ inl (omega arith)
-                    | inr w ↦ inr (omega arith)
-                  ]
-            ]
-          ]
+  past_more h = record {
+    single = λ j k a b ne same s t. elim (eq-zero-or-pos (phase (f j))) [
+      | inl z ↦ inr ((fresh j a z s).clear k b (λ e. ne (sym e)) (sym same) t)
+      | inr u ↦ elim (eq-zero-or-pos (phase (f k))) [
+        | inl z ↦ inl ((fresh k b z t).clear j a ne same s)
+        | inr v ↦ apart_more P Z now f g later j k u v (h.single j k a b ne same u v)
+      ]
+    ];
+    right = λ j k a b same s r. elim (eq-zero-or-pos (phase (f j))) [
+      | inl z ↦ (fresh j a z s).chosen k b same r
+      | inr u ↦ (let e = (later j).start u in let o = h.right j k a b same u (rw e at r) in grind (arith, begun_more P Z now f g later k))
+    ];
+    taken = λ k t a b r. taken_more P Z now f g later k t b (h.taken k t a b r);
+    carried = λ x k t a b u v w. carried_more P Z now f g later x k t b u v w (h.carried x k t a b);
+    kept = λ x k b a c ne s. elim (cases_lt (at x) (phase (f k))) [
+      | inr z ↦ new_kept x k b a c ne z s
+      | inl u ↦
+          rw (granted_same Z k (later k) x u, joined_same Z k (later k) x (omega arith))
+          (within_less (lim (core_at P Z k) b) _ _ (h.kept x k b a c ne u)
+          (sight_le P Z now f g later (granted x (job_of Z k (f k))) (joined x (job_of Z k (f k))) b (granted_now Z k (fits k a) x u)))
+    ];
+    alone = λ x y j k a b ne s t. elim (cases_lt (at y) (phase (f k))) [
+      | inr u ↦ inl (new_alone x y j k a b ne u t s)
+      | inl v ↦ elim (cases_lt (at x) (phase (f j))) [
+        | inr u ↦ inr (new_alone y x k j b a (λ e. ne (sym e)) u s t)
+        | inl u ↦ (let o = h.alone x y j k a b ne u v in grind (arith, ended_same Z j (later j) x u, granted_same Z j (later j) x u, ended_same Z k (later k) y v, granted_same Z k (later k) y v))
+      ]
+    ];
+  }

@@ -1,7 +1,6 @@
 -- Every job of every run ends within its window.
 use Rattle.std.proofs.Common.{◌≡◌, ℕ, subst, arith}
-use Rattle.tasks.specs.declared.limit.Limit.{Limit}
-use Rattle.tasks.specs.Limits.{Within}
+use Rattle.tasks.specs.Limits.{Within, Limit}
 use Rattle.argument.specs.Plans.{Plan, SoundPlan}
 use Rattle.argument.specs.Logs.{Log, core_of, met, possible_moments, spaced_releases, one_at_a_time, no_idling, right_choice, never_free, limits_kept, KeepsTheLaws}
 use Rattle.argument.proofs.Instance.{in_time}

@@ -1,19 +1,20 @@
 -- The arbiter's grants fix the log.
-use Rattle.std.proofs.Common.{◌≡◌, ℕ, zero, suc, ◌+◌, ◌-◌, ◌<◌, ◌≤◌, cond, ◌&&◌, eqb, List, [], ◌∷◌, length, get_or, Some, None, Option, sym, refl, ap, ◌∙◌, subst, inl, inr, arith}
-use Rattle.std.proofs.lemmas.Bool.{cases_eq, cases_lt, cases_Bool, cond_both, cond-true, cond-false}
+use Rattle.std.proofs.Common.{◌≡◌, ℕ, zero, suc, ◌+◌, ◌-◌, ◌<◌, ◌≤◌, List, [], ◌∷◌, length, get_or, Option, sym, refl, ap, ◌∙◌, subst, inl, inr, arith}
+use Rattle.std.proofs.lemmas.Bool.{cases_eq, cases_lt, cases_Bool, cond-true, cond-false}
 use Rattle.argument.specs.Sums.{any}
 use Rattle.argument.specs.Plans.{Plan, SoundPlan}
 use Rattle.bus.specs.Turns.{Meaning, Idle}
 use Rattle.bridge.specs.Scripts.{Script}
 use Rattle.bridge.specs.Stages.{number}
 use Rattle.bridge.specs.States.{Cell, State, job_of, log_of, Complete}
-use Rattle.bridge.specs.Moments.{end_a, end_r, finish_at, finishes, first, join_r, begin_at, act_at, acts, serving, waits_now, grant_a, grant_r, grant_at, granting, moment}
+use Rattle.bridge.specs.Moments.{finishes, acts, serving, waits_now, grant_at, granting, moment}
 use Rattle.bridge.specs.Runs.{tick, run, grants_of}
 use Rattle.bridge.specs.Promises.{AllowedRun, TheLogIsSingle}
 use Rattle.bridge.proofs.Allowed.{Allowed, allowed}
 use Rattle.bridge.proofs.Kept.{Keeps, keeps}
-use Rattle.bridge.proofs.Cells.{phase}
-use Rattle.bridge.proofs.Onward.{Grows, grows_same, grows_on, after_moment}
+use Rattle.bridge.proofs.Cells.{phase, later_same}
+use Rattle.bridge.proofs.Onward.{Grows, grows_on, after_moment}
+use Rattle.bridge.proofs.Steps.{finishes_keep, acts_keep}
 use Rattle.bridge.proofs.Ticks.{good_run}
 
 -- ---- only a grant adds to the grants
@@ -21,37 +22,21 @@ use Rattle.bridge.proofs.Ticks.{good_run}
 abbrev pub G : State → List ℕ
 G S = grants_of S.events
 
-grants_finish : (S : State) (c : ℕ) (o : Option ℕ) → G (finish_at S c o) ≡ G S
-grants_finish S c None = refl
-grants_finish S c (Some k) = cond_both (eqb (phase (S.cell k)) 2 && eqb (S.cell k).a_end S.now) (end_a S k) (cond (eqb (phase (S.cell k)) 5 && eqb (S.cell k).end S.now) (end_r S c k) S) (λ T. G T ≡ G S)
-    (λ _. refl) (λ _. cond_both (eqb (phase (S.cell k)) 5 && eqb (S.cell k).end S.now) (end_r S c k) S (λ T. G T ≡ G S) (λ _. refl) (λ _. refl))
-
-grants_finishes : (n : ℕ) (S : State) → G (finishes n S) ≡ G S
-grants_finishes zero S = refl
-grants_finishes (suc n) S = grants_finish (finishes n S) n ((finishes n S).has n) ∙ grants_finishes n S
-
-grants_act : (P : Plan) (Z : Script) (S : State) (c : ℕ) (o : Option ℕ) → G (act_at P Z S c o) ≡ G S
-grants_act P Z S c (Some k) = cond_both (eqb (phase (S.cell k)) 3 && eqb (S.cell k).e_end S.now) (join_r S c k) S (λ T. G T ≡ G S) (λ _. refl) (λ _. refl)
-grants_act P Z S c None = go (first P Z S c Z.size)
-  where
-    go : (w : Option ℕ) → G (begin_at S c w) ≡ G S
-    go None = refl
-    go (Some k) = refl
-
-grants_acts : (P : Plan) (Z : Script) (n : ℕ) (S : State) → G (acts P Z n S) ≡ G S
-grants_acts P Z zero S = refl
-grants_acts P Z (suc n) S = grants_act P Z (acts P Z n S) n ((acts P Z n S).has n) ∙ grants_acts P Z n S
-
 pub grants_grant : (Z : Script) (S : State) (p : ℕ) (o : Option ℕ) → G (grant_at Z S p o) ≡ p ∷ G S
-grants_grant Z S p None = refl
-grants_grant Z S p (Some k) = cond_both (eqb (phase (S.cell k)) 1) (grant_a Z S p k) (grant_r Z S p k) (λ T. G T ≡ p ∷ G S) (λ _. refl) (λ _. refl)
+grants_grant Z S p o = grind arith
 
 -- the cores have acted
 abbrev pub Before : Plan → Script → State → State
 Before P Z S = acts P Z P.cores (finishes P.cores S)
 
 pub grants_before : (P : Plan) (Z : Script) (S : State) → G (Before P Z S) ≡ G S
-grants_before P Z S = grants_acts P Z P.cores (finishes P.cores S) ∙ grants_finishes P.cores S
+grants_before P Z S =
+    acts_keep P Z (λ T. G T ≡ G S) (λ T c k e h g. g) (λ T c k e a b g. g) P.cores (finishes P.cores S)
+    (finishes_keep (λ T. G T ≡ G S) (λ T c k e a b g. g) (λ T c k e a b g. g) P.cores S refl)
+
+-- a port that is granted is one grant more
+grants_more : (P : Plan) (Z : Script) (S : State) (p : ℕ) → granting P Z p (Before P Z S) ≡ grant_at Z (Before P Z S) p ((Before P Z S).has p) → G (moment P Z p S) ≡ p ∷ G S
+grants_more P Z S p e = ap G e ∙ grants_grant Z (Before P Z S) p ((Before P Z S).has p) ∙ ap (◌∷◌ p) (grants_before P Z S)
 
 -- either the port does not matter, and nothing is granted, or it is granted
 pub data Choice (P : Plan) (Z : Script) (S : State) : Type 0 where
@@ -75,13 +60,7 @@ many P Z cs n = length (grants_of (run P Z cs n).events)
 
 module _ (P : Plan) (Z : Script) where
   many_on : (cs : List ℕ) (n : ℕ) → many P Z cs n ≤ many P Z cs (suc n)
-  many_on cs n = elim (choice P Z (Before P Z (run P Z cs n))) [
-    | nobody h ↦ (let e = ap G (h p) ∙ grants_before P Z (run P Z cs n) in rw e (omega arith))
-    | somebody h ↦ (let e = ap G (h p) ∙ grants_grant Z (Before P Z (run P Z cs n)) p ((Before P Z (run P Z cs n)).has p) ∙ ap (◌∷◌ p) (grants_before P Z (run P Z cs n)) in rw e (omega arith))
-  ]
-    where
-      p : ℕ
-      p = get_or cs (many P Z cs n) 0
+  many_on cs n = grind (arith, choice P Z (Before P Z (run P Z cs n)), grants_before, grants_more)
 
   pub agree : (cs ds : List ℕ) (n : ℕ) → ((i : ℕ) → i < many P Z cs n → get_or cs i 0 ≡ get_or ds i 0) → run P Z cs n ≡ run P Z ds n
   agree cs ds zero h = refl
@@ -99,10 +78,7 @@ module _ (P : Plan) (Z : Script) where
       same : moment P Z p S ≡ moment P Z q S
       same = elim (choice P Z (Before P Z S)) [
         | nobody c ↦ c p ∙ sym (c q)
-        | somebody c ↦ (
-            let e = ap G (c p) ∙ grants_grant Z (Before P Z S) p ((Before P Z S).has p) ∙ ap (◌∷◌ p) (grants_before P Z S) in
-            let l : many P Z cs n < length (G (moment P Z p S)) = rw e (omega arith) in
-            ap (λ x. moment P Z x S) (h (many P Z cs n) l))
+        | somebody c ↦ ap (λ x. moment P Z x S) (h (many P Z cs n) (rw (grants_more P Z S p (c p)) (omega arith)))
       ]
 
       go : run P Z cs n ≡ run P Z ds n → run P Z cs (suc n) ≡ run P Z ds (suc n)
@@ -125,9 +101,8 @@ module _ (P : Plan) (Z : Script) where
 
       go : grants_of S.events ≡ listing cs (many P Z cs n) → grants_of (run P Z cs (suc n)).events ≡ listing cs (many P Z cs (suc n))
       go ih = elim (choice P Z (Before P Z S)) [
-        | nobody c ↦ (let e = ap G (c p) ∙ grants_before P Z S in rw e ih)
-        | somebody c ↦ (let e = ap G (c p) ∙ grants_grant Z (Before P Z S) p ((Before P Z S).has p) ∙ ap (◌∷◌ p) (grants_before P Z S) in
-            rw e (ap (◌∷◌ p) ih))
+        | nobody c ↦ rw (ap G (c p) ∙ grants_before P Z S) ih
+        | somebody c ↦ rw (grants_more P Z S p (c p)) (ap (◌∷◌ p) ih)
       ]
 
   same_listing : (cs ds : List ℕ) (a b : ℕ) → listing cs a ≡ listing ds b → (i : ℕ) → i < a → get_or cs i 0 ≡ get_or ds i 0
@@ -151,7 +126,7 @@ module _ (P : Plan) (Z : Script) where
 
 module _ (P : Plan) (Z : Script) (sound : SoundPlan P) (ok : Allowed P Z) (m₀ : Meaning) (ports : m₀.ports ≡ P.cores) (idle : Idle m₀) (cs : List ℕ) where
   pub grown : (n d t : ℕ) → t ≡ n + d → (m : Meaning) → Keeps m₀ (run P Z cs t).events m → (j : ℕ) → Grows ((run P Z cs n).cell j) ((run P Z cs t).cell j)
-  grown n zero t e m kp j = let u : t ≡ n = omega arith in subst (λ s. Grows ((run P Z cs n).cell j) ((run P Z cs s).cell j)) (sym u) (grows_same ((run P Z cs n).cell j))
+  grown n zero t e m kp j = let u : t ≡ n = omega arith in subst (λ s. Grows ((run P Z cs n).cell j) ((run P Z cs s).cell j)) (sym u) (later_same 0 ((run P Z cs n).cell j))
   grown n (suc d) t e m kp j =
       let u : t ≡ suc (n + d) = omega arith in
       let k = subst (λ s. Keeps m₀ (run P Z cs s).events m) u kp in
@@ -163,14 +138,7 @@ module _ (P : Plan) (Z : Script) (sound : SoundPlan P) (ok : Allowed P Z) (m₀ 
       (grown n d (n + d) refl z.0 z.1 j) (a.onward.grows j))
 
 pub same_row : (Z : Script) (k : ℕ) (x y : Cell) → phase x ≡ 6 → Grows x y → job_of Z k y ≡ job_of Z k x
-same_row Z k x y e g =
-    let a = g.start (omega arith) in
-    let b = g.a_granted (omega arith) in
-    let c = g.a_end (omega arith) in
-    let d = g.e_end (omega arith) in
-    let f = g.r_granted (omega arith) in
-    let h = g.end (omega arith) in
-    rw (a, b, c, d, f, h) refl
+same_row Z k x y e g = grind arith
 
 -- the shorter run first
 in_order : (plan : Plan) (script : Script) (choices choices' : List ℕ) (n n' : ℕ) (from to from' to' : Meaning) → n ≤ n'
@@ -188,8 +156,4 @@ in_order plan script choices choices' n n' from to from' to' le g whole g' same 
     ∙ sym (same_row script k ((run plan script choices' n).cell k) ((run plan script choices' n').cell k) (ap (λ (T : State). phase (T.cell k)) (sym e) ∙ six) grows)
 
 pub the_log_is_single : TheLogIsSingle
-the_log_is_single plan script choices choices' n n' from to from' to' g whole g' whole' same k l =
-    elim (cases_lt n n') [
-      | inl u ↦ in_order plan script choices choices' n n' from to from' to' (omega arith) g whole g' same k l
-      | inr u ↦ sym (in_order plan script choices' choices n' n from' to' from to u g' whole' g (sym same) k l)
-    ]
+the_log_is_single plan script choices choices' n n' from to from' to' g whole g' whole' same k l = grind (arith, in_order)

@@ -1,6 +1,6 @@
 -- What is proved of every run: each statement here stands on the contract of a public function of this crate. Assumes nothing.
 use Rattle.std.specs.Prelude.{◌≡◌, ℕ, ◌<◌, ◌≤◌, ◌⊎◌, List, ◌≢◌}
-use Rattle.tasks.specs.declared.limit.Limit.{Limit}
+use Rattle.tasks.specs.Limits.{Limit}
 use Rattle.argument.specs.Plans.{Plan, SoundPlan}
 use Rattle.argument.specs.Logs.{Log, Turn, granted, ended, KeepsTheLaws, EndsWithin}
 use Rattle.argument.specs.Theorems.{AllCovered}

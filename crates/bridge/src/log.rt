@@ -4,16 +4,19 @@ ghost use Rattle.bridge.specs.Promises.{EveryRunKeepsTheLaws, TheBusCarriesOnePh
 use bus::arbiter::Arbiter;
 
 // It keeps the laws, with the arbiter's limits, whatever the arbiter grants.
+#[tactic(auto, using(crate::proofs::Lawfully::every_run_keeps_the_laws))]
 pub fn every_run_keeps_the_laws()
     ensures { EveryRunKeepsTheLaws }
 {}
 
 // No two phases are on the bus together.
+#[tactic(auto, using(crate::proofs::Lawfully::one_phase_at_a_time))]
 pub fn the_bus_carries_one_phase_at_a_time()
     ensures { TheBusCarriesOnePhaseAtATime }
 {}
 
 // It follows from the script and the grants.
+#[tactic(auto, using(crate::proofs::Single::the_log_is_single))]
 pub fn the_log_is_single()
     ensures { TheLogIsSingle }
 {}

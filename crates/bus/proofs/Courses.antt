@@ -1,9 +1,7 @@
 -- No course lets a port wait past its limits. Assumes nothing.
-use Rattle.std.proofs.Common.{◌≡◌, ℕ, ◌+◌, true, List, sym, refl, ap, ◌∙◌, subst, inl, inr, arith}
+use Rattle.std.proofs.Common.{◌≡◌, ℕ, ◌+◌, true, List, sym, refl, ap, ◌∙◌, subst, inl, inr, arith, Some, None}
 use Rattle.std.proofs.lemmas.Bool.{cases_eq, both_ways, eq-eqb, ne_eqb}
-use Rattle.tasks.specs.declared.limit.Limit.{Limit}
-use Rattle.tasks.specs.declared.limit.Limit.TheVariants.{Phases, Unlimited}
-use Rattle.tasks.specs.Limits.{AtMost, more}
+use Rattle.tasks.specs.Limits.{AtMost, more, Limit}
 use Rattle.bus.specs.Turns.{Meaning, SameBus, with_served}
 use Rattle.bus.specs.Means.{Means, Laws, LimitOf}
 use Rattle.bus.specs.Courses.{Event, Course, RuleCourse, phases, NoTurnsPassALimit, EveryCourseKeepsTheTurnRule, NoWaitIsLonger}
@@ -11,43 +9,21 @@ use Rattle.bus.proofs.AtMost.{at_most_trans}
 use Rattle.bus.proofs.Served.{served_mono}
 
 abbrev plus : ℕ → Limit → Limit
-plus k (Phases m) = Phases (k + m)
-plus k Unlimited = Unlimited
+plus k (Some m) = Some (k + m)
+plus k None = None
 
 plus_none : (x : Limit) → AtMost (plus 0 x) x
-plus_none (Phases a) = omega arith
-plus_none Unlimited = tt
+plus_none x = grind arith
 
 -- one more is spent, and one less is left
 plus_one : (k : ℕ) (x y z : Limit) → AtMost (plus k x) z → AtMost (more y) x → AtMost (plus (1 + k) y) z
-plus_one k (Phases a) (Phases b) (Phases c) p q = omega arith
-plus_one k (Phases a) (Phases b) Unlimited p q = tt
-plus_one k (Phases a) Unlimited z p q = absurd q
-plus_one k Unlimited (Phases b) (Phases c) p q = absurd p
-plus_one k Unlimited (Phases b) Unlimited p q = tt
-plus_one k Unlimited Unlimited z p q = p
+plus_one k x y z p q = grind arith
 
-plus_kept : (k : ℕ) (x y z : Limit) → AtMost (plus k x) z → AtMost y x → AtMost (plus (0 + k) y) z
-plus_kept k (Phases a) (Phases b) (Phases c) p q = omega arith
-plus_kept k (Phases a) (Phases b) Unlimited p q = tt
-plus_kept k (Phases a) Unlimited z p q = absurd q
-plus_kept k Unlimited (Phases b) (Phases c) p q = absurd p
-plus_kept k Unlimited (Phases b) Unlimited p q = tt
-plus_kept k Unlimited Unlimited z p q = p
+plus_kept : (j k : ℕ) (x y z : Limit) → j ≡ k → AtMost (plus k x) z → AtMost y x → AtMost (plus j y) z
+plus_kept j k x y z e p q = grind arith
 
-plus_same : (k : ℕ) (x y z : Limit) → AtMost (plus k x) z → AtMost y x → AtMost (plus k y) z
-plus_same k (Phases a) (Phases b) (Phases c) p q = omega arith
-plus_same k (Phases a) (Phases b) Unlimited p q = tt
-plus_same k (Phases a) Unlimited z p q = absurd q
-plus_same k Unlimited (Phases b) (Phases c) p q = absurd p
-plus_same k Unlimited (Phases b) Unlimited p q = tt
-plus_same k Unlimited Unlimited z p q = p
-
-counted : (k : ℕ) (x y : Limit) → AtMost (plus k x) y → AtMost (Phases k) y
-counted k (Phases a) (Phases c) p = omega arith
-counted k (Phases a) Unlimited p = tt
-counted k Unlimited (Phases c) p = absurd p
-counted k Unlimited Unlimited p = tt
+counted : (k : ℕ) (x y : Limit) → AtMost (plus k x) y → AtMost (Some k) y
+counted k x y p = grind arith
 
 -- the phases of b so far, and those that may yet come, are no more than could come at the start
 pub record Spent (m : Meaning) (a b : ℕ) (es : List Event) (n : Meaning) : Type 0 where
@@ -61,7 +37,7 @@ spent {m} a b w (RuleCourse.join {n = n} {o = o} {a = c} {es = es} r j) z =
     let ne : a ≡ c → ⊥ = λ e. both_ways (n.waits c) j.free (ap n.waits (sym e) ∙ k.waits) in
     record {
       waits = j.others a ne ∙ k.waits;
-      within = plus_same (phases b es) (n.still a b) (o.still a b) (m.still a b) k.within (j.kept a b k.waits);
+      within = plus_kept (phases b es) (phases b es) (n.still a b) (o.still a b) (m.still a b) refl k.within (j.kept a b k.waits);
     }
 spent {m} a b w (RuleCourse.grant {n = n} {o = o} {c = c} {es = es} r g) z = elim (cases_eq c a) [
   | inl e ↦ absurd (let k = rw (eq-eqb c a e) at z in omega (arith, k))
@@ -71,7 +47,7 @@ spent {m} a b w (RuleCourse.grant {n = n} {o = o} {c = c} {es = es} r g) z = eli
       let still : o.waits a ≡ true = g.others a (λ e. ne (sym e)) ∙ k.waits in
       elim (cases_eq c b) [
         | inl e ↦ record { waits = still; within = rw (eq-eqb c b e) (plus_one (phases b es) (n.still a b) (o.still a b) (m.still a b) k.within (subst (λ x. AtMost (more (o.still a x)) (n.still a x)) e (g.falls a still))) }
-        | inr nb ↦ record { waits = still; within = rw (ne_eqb c b nb) (plus_kept (phases b es) (n.still a b) (o.still a b) (m.still a b) k.within (g.kept a b still)) }
+        | inr nb ↦ record { waits = still; within = rw (ne_eqb c b nb) (plus_kept (0 + phases b es) (phases b es) (n.still a b) (o.still a b) (m.still a b) (omega arith) k.within (g.kept a b still)) }
       ])
 ]
 spent {m} a b w (RuleCourse.done {n = n} {o = o} {es = es} r d) z =
@@ -84,8 +60,8 @@ spent {m} a b w (RuleCourse.done {n = n} {o = o} {es = es} r d) z =
 pub no_turns_pass : NoTurnsPassALimit
 no_turns_pass m a n es o b j r z h ne =
     let k = spent a b j.waits r z in
-    at_most_trans (with_served m.serves b (Phases (phases b es))) (with_served m.serves b (n.still a b)) (m.limit a b)
-    (served_mono m.serves b (Phases (phases b es)) (n.still a b) (counted (phases b es) (o.still a b) (n.still a b) k.within))
+    at_most_trans (with_served m.serves b (Some (phases b es))) (with_served m.serves b (n.still a b)) (m.limit a b)
+    (served_mono m.serves b (Some (phases b es)) (n.still a b) (counted (phases b es) (o.still a b) (n.still a b) k.within))
     (j.fresh b h ne)
 
 pub keeps_rule : {X : Type 0} (means : Means X) → Laws means → EveryCourseKeepsTheTurnRule means
@@ -115,4 +91,4 @@ no_longer means laws s a b l is before t u es v st past j r z =
     let bus = same_bus k.0 in
     let n = laws.joining t a u k.1 j in
     let within = no_turns_pass (means.meaning t) a (means.meaning u) es (means.meaning v) b n.0 (keeps_rule means laws u es v n.1 r).0 z (rw bus.ports is.second) (λ e. is.apart (sym e)) in
-    subst (AtMost (with_served (means.meaning t).serves b (Phases (phases b es)))) (bus.limit a b ∙ sym is.limit) within
+    subst (AtMost (with_served (means.meaning t).serves b (Some (phases b es)))) (bus.limit a b ∙ sym is.limit) within

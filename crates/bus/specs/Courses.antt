@@ -1,8 +1,6 @@
 -- The courses that an arbiter can take, event by event, and that on none of them a port waits past its limits. Assumes nothing.
-use Rattle.std.specs.Prelude.{◌≡◌, ℕ, ◌+◌, ◌<◌, cond, List, [], ◌∷◌, ◌==◌, ◌≢◌}
-use Rattle.tasks.specs.declared.limit.Limit.{Limit}
-use Rattle.tasks.specs.declared.limit.Limit.TheVariants.{Phases}
-use Rattle.tasks.specs.Limits.{AtMost}
+use Rattle.std.specs.Prelude.{◌≡◌, ℕ, ◌+◌, ◌<◌, cond, List, [], ◌∷◌, ◌==◌, ◌≢◌, Some}
+use Rattle.tasks.specs.Limits.{AtMost, Limit}
 use Rattle.bus.specs.Turns.{Meaning, Joined, Granted, Done, with_served}
 use Rattle.bus.specs.Means.{Means}
 
@@ -37,7 +35,7 @@ abbrev pub NoTurnsPassALimit : Type 0
 NoTurnsPassALimit =
     (m : Meaning) (a : ℕ) (n : Meaning) (es : List Event) (o : Meaning) (b : ℕ)
     → Joined m a n → RuleCourse n es o → phases a es ≡ 0 → b < m.ports → (b ≢ a)
-    → AtMost (with_served m.serves b (Phases (phases b es))) (m.limit a b)
+    → AtMost (with_served m.serves b (Some (phases b es))) (m.limit a b)
 
 -- An arbiter's own course is a course of the turn rule, and ends at a value that stands.
 abbrev pub EveryCourseKeepsTheTurnRule : {X : Type 0} → Means X → Type 0
@@ -50,4 +48,4 @@ abbrev pub NoWaitIsLonger : {X : Type 0} → Means X → X → ℕ → ℕ → L
 NoWaitIsLonger {X} means s a b l =
     (before : List Event) (t u : X) (es : List Event) (v : X)
     → means.stands s → Course means s before t → means.joins t a u → Course means u es v → phases a es ≡ 0
-    → AtMost (with_served (means.meaning t).serves b (Phases (phases b es))) l
+    → AtMost (with_served (means.meaning t).serves b (Some (phases b es))) l

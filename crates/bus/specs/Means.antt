@@ -1,6 +1,6 @@
 -- An arbiter's account of itself, the laws that it owes, and which refusal a call earns. Assumes nothing.
 use Rattle.std.specs.Prelude.{◌≡◌, ℕ, ◌<◌, ◌≤◌, true, false, ◌⊎◌, Some, None}
-use Rattle.tasks.specs.declared.limit.Limit.{Limit}
+use Rattle.tasks.specs.Limits.{Limit}
 use Rattle.tasks.specs.declared.refusal.Refusal.{Refusal}
 use Rattle.tasks.specs.Refusals.{told, refusal}
 use Rattle.bus.specs.Turns.{Meaning, Wanted, Serving, Sound, Joined, Granted, Done}
@@ -27,10 +27,22 @@ pub record Laws {X : Type 0} (means : Means X) : Type 0 where
 
 -- The refusals of each call, in the order in which they are judged.
 
+-- 6: the ports are not 1 to 16
+abbrev pub PortsRefused : ℕ → Refusal → Type 0
+PortsRefused ports e = (told e ≡ refusal 6) × ((ports < 1) ⊎ (16 < ports))
+
+-- 6: no such port
+abbrev pub PortRefused : ℕ → ℕ → Refusal → Type 0
+PortRefused ports a e = (told e ≡ refusal 6) × (ports ≤ a)
+
+-- 6: one is no port, or they are the same
+abbrev pub PairRefused : ℕ → ℕ → ℕ → Refusal → Type 0
+PairRefused ports a b e = (told e ≡ refusal 6) × ((ports ≤ a) ⊎ ((ports ≤ b) ⊎ (a ≡ b)))
+
 -- 6: no such port; 15: the port waits or is in service
 abbrev pub JoinRefused : Meaning → ℕ → Refusal → Type 0
 JoinRefused m a e =
-    ((told e ≡ refusal 6) × (m.ports ≤ a))
+    PortRefused m.ports a e
     ⊎ ((told e ≡ refusal 15) × (a < m.ports) × ((m.waits a ≡ true) ⊎ (m.serves ≡ Some a)))
 
 -- 16: nobody waits; 17: somebody waits during a service
@@ -52,4 +64,4 @@ pub record LimitOf (m : Meaning) (a b : ℕ) (l : Limit) : Type 0 where
 
 -- 6: one is no port, or they are the same
 abbrev pub LimitRefused : Meaning → ℕ → ℕ → Refusal → Type 0
-LimitRefused m a b e = (told e ≡ refusal 6) × ((m.ports ≤ a) ⊎ ((m.ports ≤ b) ⊎ (a ≡ b)))
+LimitRefused m a b e = PairRefused m.ports a b e

@@ -1,8 +1,6 @@
 -- The turn rule: what an arbiter's value means, and what a join, a grant and a done may make of that meaning. Assumes nothing.
 use Rattle.std.specs.Prelude.{◌≡◌, ℕ, ◌<◌, ◌≤◌, Bool, true, false, cond, ◌⊎◌, Some, None, Option, ◌==◌, ◌≢◌}
-use Rattle.tasks.specs.declared.limit.Limit.{Limit}
-use Rattle.tasks.specs.declared.limit.Limit.TheVariants.{Phases, Unlimited}
-use Rattle.tasks.specs.Limits.{AtMost, more}
+use Rattle.tasks.specs.Limits.{AtMost, more, Limit}
 
 -- A port is one core's place at the bus. It waits for the bus, is in service on it, or neither.
 pub record Meaning : Type 0 where
@@ -35,8 +33,8 @@ Busy m = Wanted m ⊎ Serving m
 
 -- 1 to 255, or no limit
 abbrev pub Proper : Limit → Type 0
-Proper (Phases n) = (1 ≤ n) × (n ≤ 255)
-Proper Unlimited = Unit {0}
+Proper (Some n) = (1 ≤ n) × (n ≤ 255)
+Proper None = Unit {0}
 
 -- what holds of the meaning of every value that stands
 pub record Sound (m : Meaning) : Type 0 where

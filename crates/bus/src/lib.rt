@@ -3,4 +3,5 @@
 
 pub mod arbiter;
 pub mod fairness;
+pub mod ports;
 pub mod service;

@@ -1,7 +1,6 @@
 -- The arbiter that a bus line spells: a bottom arbiter under its favours, with their limits. Assumes nothing.
-use Rattle.std.specs.Prelude.{◌≡◌, ℕ, false, cond, List, [], ◌∷◌, None, ◌==◌}
-use Rattle.tasks.specs.declared.limit.Limit.{Limit}
-use Rattle.tasks.specs.declared.limit.Limit.TheVariants.{Phases, Unlimited}
+use Rattle.std.specs.Prelude.{◌≡◌, ℕ, false, cond, List, [], ◌∷◌, None, ◌==◌, Some}
+use Rattle.tasks.specs.Limits.{Limit}
 use Rattle.tasks.specs.declared.platform.Bottom.{Bottom}
 use Rattle.tasks.specs.declared.platform.Bottom.TheVariants.{Queue, RoundRobin}
 use Rattle.tasks.specs.declared.platform.Favours.{Favours}
@@ -59,8 +58,8 @@ UnderFavours (Two outer inner) P (Second (Second two)) = (two.own ≡ fresh_own 
 
 -- limits over limits of 1, with these ports favoured, the outermost first
 abbrev pub line_limit : List ℕ → ℕ → ℕ → Limit
-line_limit [] a b = Phases 1
-line_limit (f ∷ fs) a b = cond (b == f) Unlimited (cond (a == f) (Phases 1) (line_limit fs a b))
+line_limit [] a b = Some 1
+line_limit (f ∷ fs) a b = cond (b == f) None (cond (a == f) (Some 1) (line_limit fs a b))
 
 -- what becomes of a bus line for n ports
 pub record BusMade (line : BusLine) (n : ℕ) (bus : BusValue) : Type 0 where

@@ -1,9 +1,10 @@
 // The library's arbiters as one type, and the bus line of a plan as a value of it.
 #![tactic(auto)]
 
-ghost use Rattle.std.specs.Prelude.{◌≡◌, ◌<◌, ◌⊎◌, Ok, Err, MatchResult};
-ghost use Rattle.tasks.specs.Refusals.{told, refusal};
+ghost use Rattle.std.specs.Prelude.{◌≡◌, Ok, Err, MatchResult};
+ghost use Rattle.tasks.specs.Refusals.{told};
 ghost use Rattle.tasks.specs.Platforms.{cores_verdict, favoured};
+ghost use Rattle.bus.specs.Means.{PortsRefused};
 ghost use Rattle.bus_line.specs.Lines.{BaseMade, BusMade};
 
 use either_arbiter::Either;
@@ -20,7 +21,7 @@ pub type Base = Either<Queue, RoundRobin>;
 pub type Bus = Either<Base, Either<Favour<Base>, Favour<Favour<Base>>>>;
 
 fn base_of(bottom: Bottom, ports: u8) -> Result<Base, Refusal>
-    ensures { MatchResult result (λ base. BaseMade bottom ports base) (λ e. (told e ≡ refusal 6) × ((ports < 1) ⊎ (16 < ports))) }
+    ensures { MatchResult result (λ base. BaseMade bottom ports base) (λ e. PortsRefused ports e) }
 {
     match bottom {
         Bottom::Queue => Ok(Either::First(Queue::new(ports)?)),

@@ -6,6 +6,7 @@ use std::test::Fail;
 use tasks::limit::Limit;
 use tasks::refusal::Refusal;
 
+// A table of values reads like a script; a list of closures would name the arbiter and the answer's check in each row.
 #[derive(Clone, Copy)]
 pub(crate) enum Step {
     // a join of this port is taken
@@ -18,60 +19,31 @@ pub(crate) enum Step {
     Idle(bool),
     // the limit of two ports
     Limits(u8, u8, Limit),
-    // each call refused, with this number
+    // each call refused, with this number: that of the rules, as a maker reads it
     NoJoin(u8, u8),
     NoGrant(u8),
     NoEnd(u8),
     NoLimit(u8, u8, u8),
 }
 
-// The number of a refusal; 0 where the call was taken.
-pub(crate) fn number<T: Drop>(r: Result<T, Refusal>) -> u8 {
-    match r {
-        Ok(_) => 0,
-        Err(e) => e.number().unwrap_or(0),
-    }
+// The number of the refusal; none where the call was taken.
+pub(crate) fn refused<T: Drop>(answer: Result<T, Refusal>) -> Option<u8> {
+    answer.err().and_then(|why| why.number())
 }
 
 fn turn<B: Arbiter>(rt: &impl Abort, bus: &mut B, step: Step) -> Result<(), Fail> {
     match step {
-        Step::Joins(a) => {
-            assert_eq!(rt; number(bus.join(a)), 0);
-            Ok(())
-        },
-        Step::Grants(c) => {
-            assert_eq!(rt; bus.grant()?, c);
-            Ok(())
-        },
-        Step::Ends => {
-            assert_eq!(rt; number(bus.done()), 0);
-            Ok(())
-        },
-        Step::Idle(is) => {
-            assert_eq!(rt; bus.idle(), is);
-            Ok(())
-        },
-        Step::Limits(a, b, l) => {
-            assert_eq!(rt; bus.limit(a, b)?, l);
-            Ok(())
-        },
-        Step::NoJoin(a, n) => {
-            assert_eq!(rt; number(bus.join(a)), n);
-            Ok(())
-        },
-        Step::NoGrant(n) => {
-            assert_eq!(rt; number(bus.grant()), n);
-            Ok(())
-        },
-        Step::NoEnd(n) => {
-            assert_eq!(rt; number(bus.done()), n);
-            Ok(())
-        },
-        Step::NoLimit(a, b, n) => {
-            assert_eq!(rt; number(bus.limit(a, b)), n);
-            Ok(())
-        },
+        Step::Joins(a) => bus.join(a)?,
+        Step::Grants(c) => assert_eq!(rt; bus.grant()?, c),
+        Step::Ends => bus.done()?,
+        Step::Idle(is) => assert_eq!(rt; bus.idle(), is),
+        Step::Limits(a, b, l) => assert_eq!(rt; bus.limit(a, b)?, l),
+        Step::NoJoin(a, n) => assert_eq!(rt; refused(bus.join(a)), Some(n)),
+        Step::NoGrant(n) => assert_eq!(rt; refused(bus.grant()), Some(n)),
+        Step::NoEnd(n) => assert_eq!(rt; refused(bus.done()), Some(n)),
+        Step::NoLimit(a, b, n) => assert_eq!(rt; refused(bus.limit(a, b)), Some(n)),
     }
+    Ok(())
 }
 
 pub(crate) fn play<B: Arbiter>(rt: &impl Abort, bus: &mut B, steps: &[Step]) -> Result<(), Fail> {
@@ -102,29 +74,15 @@ pub(crate) fn favoured<B: Arbiter>(
 }
 
 // All 16 ports join, the highest first.
-fn all_join<B: Arbiter>(rt: &impl Abort, bus: &mut B) -> Result<(), Fail> {
-    for a in 0..16u8 {
-        turn(rt, bus, Step::Joins(15 - a))?;
+pub(crate) fn all_join<B: Arbiter>(made: Result<B, Refusal>) -> Result<B, Fail> {
+    let mut bus = made?;
+    for port in (0..16).rev() {
+        bus.join(port)?;
     }
-    Ok(())
+    Ok(bus)
 }
 
-// All 16 ports join, the highest first, and are served, the highest or the lowest first.
-pub(crate) fn all_served<B: Arbiter>(
-    rt: &impl Abort,
-    made: Result<B, Refusal>,
-    highest_first: bool,
-) -> Result<(), Fail> {
-    let mut bus = made?;
-    all_join(rt, &mut bus)?;
-    for a in 0..16u8 {
-        turn(
-            rt,
-            &mut bus,
-            Step::Grants(if highest_first { 15 - a } else { a }),
-        )?;
-        turn(rt, &mut bus, Step::Ends)?;
-    }
-    assert!(rt; bus.idle());
-    Ok(())
+// The next turn is this port's.
+pub(crate) fn serve<B: Arbiter>(rt: &impl Abort, bus: &mut B, port: u8) -> Result<(), Fail> {
+    play(rt, bus, &[Step::Grants(port), Step::Ends])
 }

@@ -1,6 +1,6 @@
 // What each arbiter does, table by table.
 use crate::play::Step::*;
-use crate::play::{all_served, favoured, number, play, table};
+use crate::play::{all_join, favoured, play, refused, serve, table};
 use bus::arbiter::Arbiter;
 use bus_line::{Bus, bus_of};
 use either_arbiter::Either;
@@ -37,14 +37,19 @@ fn queue_serves_in_the_order_of_joining(rt: HostRuntime) -> Result<(), Fail> {
             Grants(2),
             Idle(false),
             Ends,
-            Limits(0, 3, Limit::Phases(1)),
+            Limits(0, 3, Some(1)),
         ],
     )
 }
 
 #[test]
 fn queue_takes_every_port(rt: HostRuntime) -> Result<(), Fail> {
-    all_served(&rt, Queue::new(16), true)
+    let mut bus = all_join(Queue::new(16))?;
+    for port in (0..16).rev() {
+        serve(&rt, &mut bus, port)?;
+    }
+    assert!(rt; bus.idle());
+    Ok(())
 }
 
 #[test]
@@ -90,7 +95,7 @@ fn ring_of_three(rt: HostRuntime) -> Result<(), Fail> {
             Ends,
             Grants(0),
             Ends,
-            Limits(2, 0, Limit::Phases(1)),
+            Limits(2, 0, Some(1)),
         ],
     )
 }
@@ -120,7 +125,12 @@ fn ring_of_sixteen(rt: HostRuntime) -> Result<(), Fail> {
 
 #[test]
 fn ring_takes_every_port(rt: HostRuntime) -> Result<(), Fail> {
-    all_served(&rt, RoundRobin::new(16), false)
+    let mut bus = all_join(RoundRobin::new(16))?;
+    for port in 0..16 {
+        serve(&rt, &mut bus, port)?;
+    }
+    assert!(rt; bus.idle());
+    Ok(())
 }
 
 #[test]
@@ -147,9 +157,9 @@ fn one_favour(rt: HostRuntime) -> Result<(), Fail> {
             Ends,
             Grants(0),
             Ends,
-            Limits(0, 1, Limit::Unlimited),
-            Limits(1, 0, Limit::Phases(1)),
-            Limits(0, 2, Limit::Phases(1)),
+            Limits(0, 1, None),
+            Limits(1, 0, Some(1)),
+            Limits(0, 2, Some(1)),
         ],
     )
 }
@@ -175,9 +185,9 @@ fn two_favours(rt: HostRuntime) -> Result<(), Fail> {
             Ends,
             Grants(1),
             Ends,
-            Limits(2, 3, Limit::Unlimited),
-            Limits(3, 2, Limit::Phases(1)),
-            Limits(0, 2, Limit::Unlimited),
+            Limits(2, 3, None),
+            Limits(3, 2, Some(1)),
+            Limits(0, 2, None),
         ],
     )
 }
@@ -197,8 +207,8 @@ fn a_favour_twice_on_one_port(rt: HostRuntime) -> Result<(), Fail> {
             Ends,
             Grants(2),
             Ends,
-            Limits(0, 1, Limit::Unlimited),
-            Limits(1, 0, Limit::Phases(1)),
+            Limits(0, 1, None),
+            Limits(1, 0, Some(1)),
         ],
     )
 }
@@ -228,7 +238,7 @@ fn batches(rt: HostRuntime) -> Result<(), Fail> {
             Ends,
             Grants(1),
             Ends,
-            Limits(0, 1, Limit::Phases(2)),
+            Limits(0, 1, Some(2)),
         ],
     )
 }
@@ -283,9 +293,9 @@ fn refusals_of_calls_on_favours(rt: HostRuntime) -> Result<(), Fail> {
 #[test]
 fn refusals_of_makings(rt: HostRuntime) {
     for ports in [0, 17, 255] {
-        assert_eq!(rt; number(Queue::new(ports)), 6);
-        assert_eq!(rt; number(RoundRobin::new(ports)), 6);
-        assert_eq!(rt; number(Batches::new(ports)), 6);
+        assert_eq!(rt; refused(Queue::new(ports)), Some(6));
+        assert_eq!(rt; refused(RoundRobin::new(ports)), Some(6));
+        assert_eq!(rt; refused(Batches::new(ports)), Some(6));
     }
 }
 
@@ -297,11 +307,11 @@ fn a_refused_favour_hands_the_arbiter_back(rt: HostRuntime) -> Result<(), Fail> 
     let Err(high) = Favour::new(bus, 3) else {
         return Err(Fail::new("taken"));
     };
-    assert_eq!(rt; number::<()>(Err(high.why)), 6);
+    assert_eq!(rt; high.why.number(), Some(6));
     let Err(busy) = Favour::new(high.below, 0) else {
         return Err(Fail::new("taken"));
     };
-    assert_eq!(rt; number::<()>(Err(busy.why)), 17);
+    assert_eq!(rt; busy.why.number(), Some(17));
     let mut back = busy.below;
     play(&rt, &mut back, &[Grants(2), Ends, Grants(1), Ends])
 }
@@ -361,10 +371,16 @@ fn bus_lines(rt: HostRuntime) -> Result<(), Fail> {
 
 #[test]
 fn bus_lines_refused(rt: HostRuntime) -> Result<(), Fail> {
-    assert_eq!(rt; number(made(Bottom::Queue, Favours::Nobody, 0)), 6);
-    assert_eq!(rt; number(made(Bottom::RoundRobin, Favours::Nobody, 17)), 6);
-    assert_eq!(rt; number(made(Bottom::Queue, Favours::One(3), 3)), 6);
-    assert_eq!(rt; number(made(Bottom::Queue, Favours::Two(0, 3), 3)), 6);
+    assert_eq!(rt; refused(made(Bottom::Queue, Favours::Nobody, 0)), Some(6));
+    assert_eq!(rt;
+        refused(made(Bottom::RoundRobin, Favours::Nobody, 17)),
+        Some(6)
+    );
+    assert_eq!(rt; refused(made(Bottom::Queue, Favours::One(3), 3)), Some(6));
+    assert_eq!(rt;
+        refused(made(Bottom::Queue, Favours::Two(0, 3), 3)),
+        Some(6)
+    );
     refusals(&rt, made(Bottom::Queue, Favours::Two(0, 2), 3))
 }
 

@@ -1,7 +1,6 @@
-mod Taking
+mod Ceiling
 mod OwnCore
 mod Keeping
 mod Reckoning
 mod Searching
 mod Fetching
-mod Telling

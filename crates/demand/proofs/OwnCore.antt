@@ -1,63 +1,58 @@
--- One task more of the own core, in each of the sums that go over all tasks.
-use Rattle.std.proofs.Common.{◌≡◌, ℕ, ◌+◌, ◌*◌, ◌<◌, ◌≤◌, max, Bool, true, false, ◌||◌, List, length, get_or, sym, refl, ap, ◌∙◌, mul-le-mul, add-one, arith}
-use Rattle.std.proofs.lemmas.List.{get_or-map, length-map}
+-- The longest of the tasks that go after one, as the chain finds it and as the definitions take it.
+use Rattle.std.proofs.Common.{◌≡◌, ℕ, zero, suc, max, Bool, ◌||◌, List, [], ◌∷◌, map, length, get_or, is_some, unwrap_or, inl, inr, sym, refl, ap, ◌∙◌, arith}
+use Rattle.std.specs.List.{filter, fold, reduce}
+use Rattle.std.proofs.lemmas.Bool.{cases_Bool}
 use Rattle.tasks.specs.declared.task.Row.{Row}
 use Rattle.tasks.specs.declared.task.Task.{Task}
 use Rattle.tasks.specs.Rows.{no_row, cost}
-use Rattle.argument.specs.Sums.{sum, greatest, any, on}
+use Rattle.argument.specs.Sums.{greatest, any, on}
 use Rattle.argument.specs.Plans.{lower}
-use Rattle.argument.specs.Demand.{jobs}
 use Rattle.demand.specs.Rows.{rows_of}
 
-sum_next : (i : ℕ) (f : ℕ → ℕ) → sum (i + 1) f ≡ sum i f + f i
-sum_next i f = rw (add-one i) refl
+greatest_first : (n : ℕ) (f : ℕ → ℕ) → greatest (suc n) f ≡ max (f 0) (greatest n (λ i. f (suc i)))
+greatest_first zero f = omega arith
+greatest_first (suc n) f = omega (arith, greatest_first n f)
 
--- a sum with one more summand
-pub sum_more : (i : ℕ) (f : ℕ → ℕ) (old more : ℕ) → more ≡ f i → old ≡ sum i f → old + more ≡ sum (i + 1) f
-sum_more i f old more m o = omega (arith, sum_next i f)
+any_first : (n : ℕ) (test : ℕ → Bool) → any (suc n) test ≡ (test 0 || any n (λ i. test (suc i)))
+any_first zero test = grind arith
+any_first (suc n) test = grind (arith, any_first n test)
 
-pub at_most : (b : Bool) (n : ℕ) → on b n ≤ n
-at_most true n = omega arith
-at_most false n = omega arith
+module _ (task : Row) where
+  abbrev goes_after : Task → Bool
+  goes_after other = lower task other.row
 
-greatest_next : (i : ℕ) (f : ℕ → ℕ) → greatest (i + 1) f ≡ max (greatest i f) (f i)
-greatest_next i f = rw (add-one i) refl
+  abbrev cost_of : Task → ℕ
+  cost_of other = cost other.row
 
-any_next : (i : ℕ) (test : ℕ → Bool) → any (i + 1) test ≡ (any i test || test i)
-any_next i test = rw (add-one i) refl
+  abbrev cost_at : List Task → ℕ → ℕ
+  cost_at tasks place = on (lower task (get_or (rows_of tasks) place no_row)) (cost (get_or (rows_of tasks) place no_row))
 
-pub row_at_lem : (tasks : List Task) (i : ℕ) (task : Task) → i < length tasks → task ≡ get_or tasks i task → get_or (rows_of tasks) i no_row ≡ task.row
-row_at_lem tasks i task inside is = get_or-map (λ (t : Task). t.row) tasks i task no_row inside ∙ ap (λ (t : Task). t.row) (sym is)
+  abbrev after_at : List Task → ℕ → Bool
+  after_at tasks place = lower task (get_or (rows_of tasks) place no_row)
 
-module _ (tasks : List Task) (task : Row) (i : ℕ) (other : Task) (inside : i < length tasks) (is : other ≡ get_or tasks i other) where
-  pub block_more : (old new : ℕ) → new ≡ max old (on (lower task other.row) (cost other.row))
-      → old ≡ greatest i (λ place. on (lower task (get_or (rows_of tasks) place no_row)) (cost (get_or (rows_of tasks) place no_row)))
-      → new ≡ greatest (i + 1) (λ place. on (lower task (get_or (rows_of tasks) place no_row)) (cost (get_or (rows_of tasks) place no_row)))
-  block_more old new n o =
-      n ∙ rw (o, greatest_next i (λ place. on (lower task (get_or (rows_of tasks) place no_row)) (cost (get_or (rows_of tasks) place no_row))), row_at_lem tasks i other inside is) refl
+  longest_from : (tasks : List Task) (a : ℕ) → fold max a (map cost_of (filter goes_after tasks)) ≡ max a (greatest (length (rows_of tasks)) (cost_at tasks))
+  longest_from [] a = omega arith
+  longest_from (other ∷ rest) a = elim (cases_Bool (goes_after other)) [
+    | inl e ↦ (let first = ap (λ b. on b (cost_of other)) e in
+        rw e (omega (arith, first, longest_from rest (max a (cost_of other)), greatest_first (length (rows_of rest)) (cost_at (other ∷ rest)))))
+    | inr e ↦ (let first = ap (λ b. on b (cost_of other)) e in
+        rw e (omega (arith, first, longest_from rest a, greatest_first (length (rows_of rest)) (cost_at (other ∷ rest)))))
+  ]
 
-  pub any_more : (old new : Bool) → new ≡ (old || lower task other.row)
-      → old ≡ any i (λ place. lower task (get_or (rows_of tasks) place no_row))
-      → new ≡ any (i + 1) (λ place. lower task (get_or (rows_of tasks) place no_row))
-  any_more old new n o = n ∙ rw (o, any_next i (λ place. lower task (get_or (rows_of tasks) place no_row)), row_at_lem tasks i other inside is) refl
+  -- the longest of those that go after the task
+  pub longest_after : (tasks : List Task) → unwrap_or (reduce max (map cost_of (filter goes_after tasks))) 0 ≡ greatest (length (rows_of tasks)) (cost_at tasks)
+  longest_after [] = refl
+  longest_after (other ∷ rest) = elim (cases_Bool (goes_after other)) [
+    | inl e ↦ (let first = ap (λ b. on b (cost_of other)) e in
+        rw e (omega (arith, first, longest_from rest (cost_of other), greatest_first (length (rows_of rest)) (cost_at (other ∷ rest)))))
+    | inr e ↦ (let first = ap (λ b. on b (cost_of other)) e in
+        rw e (omega (arith, first, longest_after rest, greatest_first (length (rows_of rest)) (cost_at (other ∷ rest)))))
+  ]
 
-  pub jobs_more : (w old more : ℕ) → more ≡ jobs task w other.row
-      → old ≡ sum i (λ place. jobs task w (get_or (rows_of tasks) place no_row))
-      → old + more ≡ sum (i + 1) (λ place. jobs task w (get_or (rows_of tasks) place no_row))
-  jobs_more w old more n o =
-      sum_more i (λ place. jobs task w (get_or (rows_of tasks) place no_row)) old more (n ∙ ap (jobs task w) (sym (row_at_lem tasks i other inside is))) o
-
-  pub ticks_more : (w old long more : ℕ) → long ≡ cost other.row → more ≡ jobs task w other.row
-      → old ≡ sum i (λ place. cost (get_or (rows_of tasks) place no_row) * jobs task w (get_or (rows_of tasks) place no_row))
-      → old + long * more ≡ sum (i + 1) (λ place. cost (get_or (rows_of tasks) place no_row) * jobs task w (get_or (rows_of tasks) place no_row))
-  ticks_more w old long more l n o =
-      let here : long * more ≡ cost (get_or (rows_of tasks) i no_row) * jobs task w (get_or (rows_of tasks) i no_row) =
-      rw (l, n) (ap (λ row. cost row * jobs task w row) (sym (row_at_lem tasks i other inside is))) in
-      sum_more i (λ place. cost (get_or (rows_of tasks) place no_row) * jobs task w (get_or (rows_of tasks) place no_row)) old (long * more) here o
-
-pub all_looked_at : (tasks : List Task) (i : ℕ) → i ≤ length tasks → length tasks ≤ i → i ≡ length (rows_of tasks)
-all_looked_at tasks i most past = omega (arith, length-map tasks (λ (t : Task). t.row))
-
--- a task's cost is no longer than the longest spacing
-pub cost_product : (ticks count : ℕ) → ticks ≤ 10000000 → count ≤ 20000000 → ticks * count ≤ 200000000000000
-cost_product ticks count t c = mul-le-mul t c
+  -- there is one where some task goes after it
+  pub some_after : (tasks : List Task) → is_some (reduce max (map cost_of (filter goes_after tasks))) ≡ any (length (rows_of tasks)) (after_at tasks)
+  some_after [] = refl
+  some_after (other ∷ rest) = elim (cases_Bool (goes_after other)) [
+    | inl e ↦ rw e (sym (any_first (length (rows_of rest)) (after_at (other ∷ rest)) ∙ rw e refl))
+    | inr e ↦ rw e (some_after rest ∙ sym (any_first (length (rows_of rest)) (after_at (other ∷ rest)) ∙ rw e refl))
+  ]

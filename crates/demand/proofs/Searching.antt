@@ -1,7 +1,7 @@
 -- The search passes over no covering number, since demand never falls.
 use Rattle.std.proofs.Common.{ℕ, ◌≤◌, inl, inr, arith}
 use Rattle.std.proofs.lemmas.Bool.{cases_lt}
-use Rattle.tasks.specs.declared.limit.Limit.{Limit}
+use Rattle.tasks.specs.Limits.{Limit}
 use Rattle.argument.specs.Plans.{Plan}
 use Rattle.argument.specs.Demand.{demand, NoneBelow}
 use Rattle.argument.proofs.Least.{jump}

@@ -1,4 +1,5 @@
 pub mod Caps
+pub mod Cases
 pub mod Offers
 pub mod Rows
 pub mod Settled

@@ -1,6 +1,6 @@
 -- What settling tells of all tasks of a plan. Assumes nothing.
-use Rattle.std.specs.Prelude.{◌≡◌, ℕ, ◌+◌, ◌<◌, List, [], ◌∷◌, length, slice_index_or}
-use Rattle.tasks.specs.declared.limit.Limit.{Limit}
+use Rattle.std.specs.Prelude.{◌≡◌, ℕ, ◌<◌, Bool, true, false, List, length, count_by, slice_index_or}
+use Rattle.tasks.specs.Limits.{Limit}
 use Rattle.tasks.specs.declared.outcome.Outcome.{Outcome}
 use Rattle.tasks.specs.declared.outcome.Outcome.TheVariants.{Window, Late}
 use Rattle.argument.specs.Plans.{Plan}
@@ -11,11 +11,10 @@ pub record AllSettled (plan : Plan) (limits : ℕ → ℕ → Limit) (outcomes :
   pub each : (place : ℕ) → place < plan.size → Settles plan limits place (slice_index_or outcomes place (Late 0))
   pub all : length outcomes ≡ plan.size
 
-abbrev pub late : Outcome → ℕ
-late (Window ticks) = 0
-late (Late ticks) = 1
+abbrev pub is_late : Outcome → Bool
+is_late (Window ticks) = false
+is_late (Late ticks) = true
 
 -- how many are late
 abbrev pub late_count : List Outcome → ℕ
-late_count [] = 0
-late_count (outcome ∷ rest) = late outcome + late_count rest
+late_count outcomes = count_by is_late outcomes

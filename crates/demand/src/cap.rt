@@ -7,9 +7,9 @@ ghost use Rattle.demand.specs.Caps.{limit_of};
 use tasks::limit::Limit;
 
 #[derive(Clone, Copy, Debug)]
-pub enum Cap {
-    AtMost(u64),
-    Unlimited,
+pub struct Cap {
+    // None: no limit
+    pub left: Option<u64>,
 }
 
 impl Cap {
@@ -18,9 +18,8 @@ impl Cap {
         requires { turns ≤ 10000000000 }
         ensures { limit_of result ≡ times turns limit }
     {
-        match limit {
-            Limit::Phases(n) => Cap::AtMost(turns * u64::from(n)),
-            Limit::Unlimited => Cap::Unlimited,
+        Cap {
+            left: limit.map(|n| turns * u64::from(n)),
         }
     }
 
@@ -30,13 +29,8 @@ impl Cap {
         ensures after { limit_of self.new ≡ less (limit_of self.old) many }
         ensures bound { result ≤ many }
     {
-        match *self {
-            Cap::AtMost(left) => {
-                let taken = left.min(many);
-                *self = Cap::AtMost(left - taken);
-                taken
-            }
-            Cap::Unlimited => many,
-        }
+        let taken = self.left.map_or(many, |left| left.min(many));
+        self.left = self.left.map(|left| left.saturating_sub(many));
+        taken
     }
 }

@@ -2,6 +2,7 @@
 #![tactic(auto)]
 
 pub mod cap;
+pub mod case;
 pub mod late;
 pub mod offer;
 pub mod own;

@@ -5,6 +5,7 @@ use std::cmp::Reverse;
 
 mod calls;
 
+// The kinds of phase that a task offers, in the order that breaks a tie. A job's turns at the bus have no such order.
 #[derive(Clone, Copy, PartialEq, Eq, PartialOrd, Ord, Debug)]
 pub enum Phase {
     A,

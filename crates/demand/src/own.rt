@@ -1,9 +1,7 @@
 // What the task's own core asks for: a blocker, and the jobs that go first.
-ghost use Rattle.std.specs.Prelude.{◌≡◌, ℕ, ◌+◌, ◌*◌, ◌≤◌, max, ◌||◌, length, is_some};
+ghost use Rattle.std.specs.Prelude.{◌≡◌, ℕ, ◌+◌, ◌*◌, ◌≤◌, length, is_some};
 ghost use Rattle.std.specs.Option.{unwrap_or};
-ghost use Rattle.tasks.specs.Rows.{cost};
-ghost use Rattle.argument.specs.Sums.{on, ceil};
-ghost use Rattle.argument.specs.Plans.{plan_of, level, lower};
+ghost use Rattle.argument.specs.Plans.{plan_of, lower};
 ghost use Rattle.argument.specs.Demand.{block, jobs, own};
 ghost use Rattle.demand.specs.Rows.{rows_of, lower_any, jobs_count};
 
@@ -14,23 +12,18 @@ pub fn blocker(tasks: &[Task], task: &Task) -> Option<u32>
     ensures ticks { (cores : ℕ) → unwrap_or result 0 ≡ block (plan_of cores (rows_of tasks.now)) task.now.row }
     ensures some { is_some result ≡ lower_any (rows_of tasks.now) task.now.row }
 {
-    let mut longest = None;
-    for other in tasks {
-        longest = longer(longest, task, other);
-    }
-    longest
+    tasks
+        .iter()
+        .filter(|other| goes_after(task, other))
+        .map(Task::cost)
+        .max()
 }
 
-// The longest blocker so far, with one more task looked at.
-fn longer(longest: Option<u32>, task: &Task, other: &Task) -> Option<u32>
-    ensures ticks { unwrap_or result 0 ≡ max (unwrap_or longest 0) (on (lower task.now.row other.now.row) (cost other.now.row)) }
-    ensures some { is_some result ≡ (is_some longest || lower task.now.row other.now.row) }
+// Whether the other task is on the task's core, with a rank number above the task's.
+fn goes_after(task: &Task, other: &Task) -> bool
+    ensures { result ≡ lower task.now.row other.now.row }
 {
-    if other.row.core == task.row.core && other.row.rank > task.row.rank {
-        Some(longest.unwrap_or(0).max(other.cost()))
-    } else {
-        longest
-    }
+    other.row.core == task.row.core && other.row.rank > task.row.rank
 }
 
 // Jobs that go before the task's own on its core, and those themselves.
@@ -43,12 +36,11 @@ pub struct Jobs {
 
 // The jobs of so many ticks.
 pub fn jobs_within(tasks: &[Task], task: &Task, w: u32) -> Jobs
-    requires few { length tasks.now ≤ 64 }
-    requires near { w ≤ 10000000 }
+    requires { length tasks.now ≤ 64 }
     ensures count { result.count ≡ jobs_count (rows_of tasks.now) task.now.row w }
     ensures ticks { (cores : ℕ) → result.ticks ≡ own (plan_of cores (rows_of tasks.now)) task.now.row w }
-    ensures counted { result.count ≤ 64 * 20000000 }
-    ensures bound { result.ticks ≤ 64 * 200000000000000 }
+    ensures counted { result.count ≤ 64 * (w + 10000000) }
+    ensures bound { result.ticks ≤ 64 * ((w + 10000000) * 10000000) }
 {
     let mut count: u64 = 0;
     let mut ticks: u64 = 0;
@@ -61,14 +53,13 @@ pub fn jobs_within(tasks: &[Task], task: &Task, w: u32) -> Jobs
 }
 
 // How many jobs the other task brings before the task's own in w ticks.
+#[tactic(auto, using(crate::proofs::Ceiling::ceil_is))]
 fn jobs_of(task: &Task, other: &Task, w: u32) -> u64
-    requires { w ≤ 10000000 }
     ensures value { result ≡ jobs task.now.row w other.now.row }
-    ensures bound { result ≤ 20000000 }
+    ensures bound { result ≤ w + 10000000 }
 {
     if other.row.core != task.row.core || other.row.rank > task.row.rank {
         return 0;
     }
-    let spacing = u64::from(other.row.spacing);
-    (u64::from(w) + (spacing - 1)) / spacing
+    u64::from(w).div_ceil(u64::from(other.row.spacing))
 }

@@ -1,89 +1,62 @@
 // The demand of a task, with the limits of an arbiter.
-ghost use Rattle.std.specs.Prelude.{◌≡◌, ℕ, ◌+◌, ◌*◌, ◌<◌, ◌≤◌, not, map, length, ◌==◌};
+ghost use Rattle.std.specs.Prelude.{◌≡◌, ◌+◌, ◌*◌, ◌<◌, ◌≤◌, not, ◌==◌};
 ghost use Rattle.tasks.specs.Limits.{times};
 ghost use Rattle.argument.specs.Sums.{sum, on};
-ghost use Rattle.argument.specs.Plans.{plan_of};
-ghost use Rattle.argument.specs.LongestFirst.{taken};
-ghost use Rattle.argument.specs.Demand.{demand as demandOf};
-ghost use Rattle.demand.specs.Offers.{listed, kept, of_core, phases_in};
-ghost use Rattle.demand.specs.Rows.{rows_of, row_at};
+ghost use Rattle.argument.specs.Demand.{demand as demandOf, share};
+ghost use Rattle.demand.specs.Cases.{plan, limits, own_core};
 
 use crate::cap::Cap;
-use crate::offer::Offer;
+use crate::case::Case;
 use crate::own::{blocker, jobs_within};
 use crate::share::share;
 use bus::arbiter::Arbiter;
-use tasks::task::Task;
 
-// The demand of the task at a place for w ticks: block, own jobs and all shares.
-pub fn demand<B: Arbiter>(
-    tasks: &[Task],
-    offers: &[Offer],
-    arbiter: &B,
-    place: usize,
-    w: u32,
-) -> u64
-    requires few { length tasks.now ≤ 64 }
-    requires near { w ≤ 10000000 }
-    requires known { place < length tasks.now }
-    requires ports { (row_at (rows_of tasks.now) place).core < (B.Arbiter.means.meaning arbiter.now).ports }
-    requires fetched { map listed offers.now ≡ kept (row_at (rows_of tasks.now)) (length (rows_of tasks.now)) }
-    ensures { result ≡ demandOf (plan_of (B.Arbiter.means.meaning arbiter.now).ports (rows_of tasks.now)) (B.Arbiter.means.meaning arbiter.now).limit place w }
-{
-    let task = tasks[place];
-    let blocker = blocker(tasks, &task);
-    let jobs = jobs_within(tasks, &task, w);
-    let turns = turns_of(jobs.count, blocker.is_some());
-    let others = shares(offers, arbiter, task.row.core, w, turns);
-    u64::from(blocker.unwrap_or(0)) + jobs.ticks + others
+impl<'a, B: Arbiter> Case<'a, B> {
+    // The demand of the task for w ticks: block, own jobs and all shares.
+    pub fn demand(&self, w: u32) -> u64
+        requires { w ≤ 10000000 }
+        ensures { result ≡ demandOf (plan self.now) (limits self.now) self.now.place w }
+    {
+        let task = self.task();
+        let blocker = blocker(self.tasks, task);
+        let jobs = jobs_within(self.tasks, task, w);
+        let turns = turns_of(jobs.count, blocker.is_some());
+        u64::from(blocker.unwrap_or(0)) + jobs.ticks + self.shares(w, turns)
+    }
+
+    // What all other cores can put before so many turns of the task's own core.
+    fn shares(&self, w: u32, turns: u32) -> u64
+        requires { w ≤ 10000000 }
+        ensures value { result ≡ sum (plan self.now).cores (λ core. on (not (core == own_core self.now)) (share (plan self.now) core w (times turns (limits self.now (own_core self.now) core)))) }
+        ensures bound { result ≤ 255 * (128 * (30000000 * 10000000)) }
+    {
+        (0..self.arbiter.ports())
+            .map(|core| self.share_of(core, w, turns))
+            .sum()
+    }
+
+    // What one core can put before them: nothing where it is the task's own.
+    #[tactic(auto, using(crate::proofs::Reckoning::few_offers))]
+    fn share_of(&self, core: u8, w: u32, turns: u32) -> u64
+        requires { core < (plan self.now).cores }
+        ensures value { result ≡ on (not (core == own_core self.now)) (share (plan self.now) core w (times turns (limits self.now (own_core self.now) core))) }
+        ensures bound { result ≤ 128 * ((w + 20000000) * 10000000) }
+    {
+        let own = self.task().row.core;
+        if core == own {
+            return 0;
+        }
+        match self.arbiter.limit(own, core) {
+            Ok(limit) => share(self.offers, core, w, Cap::new(u64::from(turns), limit)),
+            Err(_) => unreachable(),
+        }
+    }
 }
 
 // How often the core waits for the bus: twice in each job, and twice more if a job may be on it already.
-fn turns_of(jobs: u64, blocked: bool) -> u64
-    requires { jobs ≤ 4000000000 }
+fn turns_of(jobs: u64, blocked: bool) -> u32
+    requires { jobs ≤ 2000000000 }
     ensures { result ≡ 2 * jobs + on blocked 2 }
 {
-    if blocked { 2 * jobs + 2 } else { 2 * jobs }
-}
-
-// What all other cores can put before the turns of the core `own`.
-fn shares<B: Arbiter>(offers: &[Offer], arbiter: &B, own: u8, w: u32, turns: u64) -> u64
-    requires few { length offers.now ≤ 128 }
-    requires near { w ≤ 10000000 }
-    requires seldom { turns ≤ 10000000000 }
-    requires port { own < (B.Arbiter.means.meaning arbiter.now).ports }
-    ensures value { result ≡ sum (B.Arbiter.means.meaning arbiter.now).ports (λ core. on (not (core == own)) (taken (times turns ((B.Arbiter.means.meaning arbiter.now).limit own core)) (phases_in w (of_core core (map listed offers.now))))) }
-    ensures bound { result ≤ 255 * 51200000000000000 }
-{
-    let mut ticks: u64 = 0;
-    for core in 0..arbiter.ports() {
-        ticks += other_share(offers, arbiter, own, core, w, turns);
-    }
-    ticks
-}
-
-// The share of one core in the demand of a task of the core `own`: nothing for that core itself.
-fn other_share<B: Arbiter>(
-    offers: &[Offer],
-    arbiter: &B,
-    own: u8,
-    core: u8,
-    w: u32,
-    turns: u64,
-) -> u64
-    requires few { length offers.now ≤ 128 }
-    requires near { w ≤ 10000000 }
-    requires seldom { turns ≤ 10000000000 }
-    requires port { own < (B.Arbiter.means.meaning arbiter.now).ports }
-    requires other { core < (B.Arbiter.means.meaning arbiter.now).ports }
-    ensures value { result ≡ on (not (core == own)) (taken (times turns ((B.Arbiter.means.meaning arbiter.now).limit own core)) (phases_in w (of_core core (map listed offers.now)))) }
-    ensures bound { result ≤ 51200000000000000 }
-{
-    if core == own {
-        return 0;
-    }
-    match arbiter.limit(own, core) {
-        Ok(limit) => share(offers, core, w, Cap::new(turns, limit)),
-        Err(_) => unreachable(),
-    }
+    2 * (jobs as u32 + u32::from(blocked))
 }

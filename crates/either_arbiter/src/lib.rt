@@ -8,6 +8,7 @@ use bus::arbiter::Arbiter;
 use tasks::limit::Limit;
 use tasks::refusal::Refusal;
 
+// A type of its own, and not that of the crate `either`: that one could be an arbiter only in the crate of the trait, which knows none.
 #[derive(Drop)]
 pub enum Either<X, Y> {
     First(X),

@@ -1,6 +1,5 @@
 -- A favour's account of itself: one port before all others, over the account of the arbiter below. Assumes nothing.
 use Rattle.std.specs.Prelude.{◌≡◌, ℕ, ◌<◌, true, false, cond, ◌⊎◌, Some, None, Option, ◌==◌, ◌≢◌}
-use Rattle.tasks.specs.declared.limit.Limit.TheVariants.{Phases, Unlimited}
 use Rattle.bus.specs.Turns.{Meaning}
 use Rattle.bus.specs.Means.{Means}
 use Rattle.favour.specs.declared.Own.{Own}
@@ -10,10 +9,10 @@ use Rattle.favour.specs.declared.Favour.{Favour}
 abbrev pub favour_meaning : Own → Meaning → Meaning
 favour_meaning own m = record {
   ports = m.ports;
-  limit = λ a b. cond (b == own.port) Unlimited (cond (a == own.port) (Phases 1) (m.limit a b));
+  limit = λ a b. cond (b == own.port) None (cond (a == own.port) (Some 1) (m.limit a b));
   waits = λ p. cond (p == own.port) own.waits (m.waits p);
   serves = own.served;
-  still = λ a b. cond (b == own.port) Unlimited (cond (a == own.port) (Phases 0) (m.still a b));
+  still = λ a b. cond (b == own.port) None (cond (a == own.port) (Some 0) (m.still a b));
 }
 
 -- the service that the arbiter below hears of: never that of port f

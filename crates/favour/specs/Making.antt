@@ -1,9 +1,9 @@
 -- When an arbiter can be favoured, and what is made of it. Assumes nothing.
-use Rattle.std.specs.Prelude.{◌≡◌, ℕ, ◌<◌, ◌≤◌, false, ◌⊎◌, None}
+use Rattle.std.specs.Prelude.{◌≡◌, ℕ, ◌<◌, false, ◌⊎◌, None}
 use Rattle.tasks.specs.declared.refusal.Refusal.{Refusal}
 use Rattle.tasks.specs.Refusals.{told, refusal}
 use Rattle.bus.specs.Turns.{Idle, Busy}
-use Rattle.bus.specs.Means.{Means}
+use Rattle.bus.specs.Means.{Means, PortRefused}
 use Rattle.favour.specs.declared.Favour.{Favour}
 use Rattle.favour.specs.Account.{favour_means}
 
@@ -17,5 +17,5 @@ pub record Made {X : Type 0} (means : Means X) (x : X) (f : ℕ) (s : Favour X) 
 -- 6: no such port; 17: the arbiter below is not idle
 abbrev pub NotMade : {X : Type 0} → Means X → X → ℕ → Refusal → Type 0
 NotMade means x f e =
-    ((told e ≡ refusal 6) × ((means.meaning x).ports ≤ f))
+    PortRefused (means.meaning x).ports f e
     ⊎ ((told e ≡ refusal 17) × (f < (means.meaning x).ports) × (means.stands x → Busy (means.meaning x)))

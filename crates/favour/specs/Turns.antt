@@ -2,40 +2,28 @@
 use Rattle.std.specs.Prelude.{◌≡◌, ℕ, Bool, true, false, cond, Some, None, Option, ◌==◌, ◌≢◌, refl}
 use Rattle.std.proofs.Common.{sym, ap, subst, ◌∙◌, inl, inr, arith}
 use Rattle.std.proofs.lemmas.Bool.{cases_eq, both_ways, eq-eqb, ne_eqb}
-use Rattle.tasks.specs.declared.limit.Limit.{Limit}
-use Rattle.tasks.specs.declared.limit.Limit.TheVariants.{Phases, Unlimited}
-use Rattle.tasks.specs.Limits.{AtMost, more}
-use Rattle.bus.specs.Turns.{Meaning, Sound, Proper, Joined, Granted, Done}
+use Rattle.tasks.specs.Limits.{AtMost, more, Limit}
+use Rattle.bus.specs.Turns.{Meaning, Wanted, Sound, Proper, Joined, Granted, Done}
 use Rattle.bus.proofs.AtMost.{at_most_self}
 use Rattle.bus.proofs.Served.{served_fits, served_more, served_less}
 use Rattle.favour.specs.declared.Own.{Own}
 use Rattle.favour.specs.Account.{favour_meaning, Agrees, OwnJoins, OwnGrants, Notes}
 
 -- the stills of a favour, over those below: u says that the second port is the favoured one, v that the first is
-over_kept : (u v : Bool) (w z : Bool) (x y : Limit) → cond v w z ≡ true → (z ≡ true → AtMost x y) → AtMost (cond u Unlimited (cond v (Phases 0) x)) (cond u Unlimited (cond v (Phases 0) y))
-over_kept true v w z x y e h = tt
-over_kept false true w z x y e h = omega arith
-over_kept false false w z x y e h = h e
+over_kept : (u v : Bool) (w z : Bool) (x y : Limit) → cond v w z ≡ true → (z ≡ true → AtMost x y) → AtMost (cond u None (cond v (Some 0) x)) (cond u None (cond v (Some 0) y))
+over_kept u v w z x y p q = grind arith
 
-over_falls : (u v : Bool) (x y : Limit) → v ≡ false → (u ≡ false → AtMost (more x) y) → AtMost (more (cond u Unlimited (cond v (Phases 0) x))) (cond u Unlimited (cond v (Phases 1) y))
-over_falls true v x y e h = tt
-over_falls false true x y e h = absurd (both_ways true e refl)
-over_falls false false x y e h = h refl
+over_falls : (u v : Bool) (x y : Limit) → v ≡ false → (u ≡ false → AtMost (more x) y) → AtMost (more (cond u None (cond v (Some 0) x))) (cond u None (cond v (Some 1) y))
+over_falls u v x y p q = grind arith
 
-over_own : (u v : Bool) (x y : Limit) → v ≡ true → AtMost (cond u Unlimited (cond v (Phases 0) x)) (cond u Unlimited (cond v (Phases 1) y))
-over_own true v x y e = tt
-over_own false true x y e = omega arith
-over_own false false x y e = absurd (both_ways false refl e)
+over_own : (u v : Bool) (x y : Limit) → v ≡ true → AtMost (cond u None (cond v (Some 0) x)) (cond u None (cond v (Some 1) y))
+over_own u v x y p = grind arith
 
-over_own_served : (u v : Bool) (x y : Limit) → v ≡ true → AtMost (more (cond u Unlimited (cond v (Phases 0) x))) (cond u Unlimited (cond v (Phases 1) y))
-over_own_served true v x y e = tt
-over_own_served false true x y e = omega arith
-over_own_served false false x y e = absurd (both_ways false refl e)
+over_own_served : (u v : Bool) (x y : Limit) → v ≡ true → AtMost (more (cond u None (cond v (Some 0) x))) (cond u None (cond v (Some 1) y))
+over_own_served u v x y p = grind arith
 
-over_below : (u v : Bool) (x y : Limit) → v ≡ false → (u ≡ false → AtMost x y) → AtMost (cond u Unlimited (cond v (Phases 0) x)) (cond u Unlimited (cond v (Phases 1) y))
-over_below true v x y e h = tt
-over_below false true x y e h = absurd (both_ways true e refl)
-over_below false false x y e h = h refl
+over_below : (u v : Bool) (x y : Limit) → v ≡ false → (u ≡ false → AtMost x y) → AtMost (cond u None (cond v (Some 0) x)) (cond u None (cond v (Some 1) y))
+over_below u v x y p q = grind arith
 
 abbrev with_own : Own → Bool → Option ℕ → Own
 with_own o w s = record { port = o.port; waits = w; served = s }
@@ -96,9 +84,8 @@ below_joined o m n agrees a ne j = (
 
 -- ---- a grant
 
-endless : (u : Bool) (x y : Limit) → u ≡ true → AtMost (more (cond u Unlimited x)) (cond u Unlimited y)
-endless true x y e = tt
-endless false x y e = absurd (both_ways false refl e)
+endless : (u : Bool) (x y : Limit) → u ≡ true → AtMost (more (cond u None x)) (cond u None y)
+endless u x y p = grind arith
 
 own_granted_at : (o : Own) (m : Meaning) → Agrees o m → o.waits ≡ true → o.served ≡ None
     → Granted (favour_meaning o m) o.port (favour_meaning (with_own o false (Some o.port)) m) × Agrees (with_own o false (Some o.port)) m
@@ -126,10 +113,8 @@ own_granted o m agrees c p j =
     subst (λ b. P b p) (sym j.own) (subst (P o.port) (sym (j.after ∙ ap (λ b. with_own o false (Some b)) j.own)) at)
 
 over_spent : (u v : Bool) (w z : Bool) (x y : Limit) → cond v w z ≡ true → w ≡ false → (z ≡ true → AtMost (more x) y)
-    → AtMost (more (cond u Unlimited (cond v (Phases 0) x))) (cond u Unlimited (cond v (Phases 0) y))
-over_spent true v w z x y e f h = tt
-over_spent false true w z x y e f h = absurd (both_ways w f e)
-over_spent false false w z x y e f h = h e
+    → AtMost (more (cond u None (cond v (Some 0) x))) (cond u None (cond v (Some 0) y))
+over_spent u v w z x y p q r = grind arith
 
 below_granted_at : (o : Own) (m n : Meaning) → Agrees o m → (c : ℕ) → o.waits ≡ false → o.served ≡ None → Granted m c n
     → Granted (favour_meaning o m) c (favour_meaning (with_own o false (Some c)) n) × Agrees (with_own o false (Some c)) n
@@ -188,17 +173,16 @@ below_done o m n agrees q e d = (
 pub own_waits : (o : Own) (m : Meaning) → o.waits ≡ true → (favour_meaning o m).waits o.port ≡ true
 own_waits o m e = rw (eq-eqb o.port o.port refl) e
 
+pub own_wanted : (o : Own) (m : Meaning) → o.waits ≡ true → Wanted (favour_meaning o m)
+own_wanted o m e = (o.port, own_waits o m e)
+
 -- ---- what holds of the meaning
 
-over_limit : (u v : Bool) (x : Limit) → Proper x → Proper (cond u Unlimited (cond v (Phases 1) x))
-over_limit true v x h = tt
-over_limit false true x h = (omega arith, omega arith)
-over_limit false false x h = h
+over_limit : (u v : Bool) (x : Limit) → Proper x → Proper (cond u None (cond v (Some 1) x))
+over_limit u v x p = grind arith
 
-over_still : (u v : Bool) (w z : Bool) (x y : Limit) → cond v w z ≡ true → (u ≡ false → z ≡ true → AtMost x y) → AtMost (cond u Unlimited (cond v (Phases 0) x)) (cond u Unlimited (cond v (Phases 1) y))
-over_still true v w z x y e h = tt
-over_still false true w z x y e h = omega arith
-over_still false false w z x y e h = h refl e
+over_still : (u v : Bool) (w z : Bool) (x y : Limit) → cond v w z ≡ true → (u ≡ false → z ≡ true → AtMost x y) → AtMost (cond u None (cond v (Some 0) x)) (cond u None (cond v (Some 1) y))
+over_still u v w z x y p q = grind arith
 
 pub favour_sound : (o : Own) (m : Meaning) → Agrees o m → Sound m → Sound (favour_meaning o m)
 favour_sound o m agrees s = record {

@@ -7,7 +7,8 @@ ghost use Rattle.favour.specs.Making.{Made, NotMade};
 ghost use Rattle.favour.specs.Laws.{favour_laws};
 
 use bus::arbiter::Arbiter;
-use bus::service::is_served;
+use bus::ports::check_pair;
+use bus::service::{check_free, end_service, is_served};
 use tasks::limit::Limit;
 use tasks::refusal::Refusal;
 
@@ -71,6 +72,7 @@ impl<B: Arbiter> Favour<B> {
     }
 }
 
+#[tactic(auto, using(crate::specs::Turns::own_wanted))]
 impl<B: Arbiter> Arbiter for Favour<B> {
     ghost means = { favour_means B.Arbiter.means };
 
@@ -81,25 +83,22 @@ impl<B: Arbiter> Arbiter for Favour<B> {
     }
 
     fn limit(&self, a: u8, b: u8) -> Result<Limit, Refusal> {
-        let ports = self.below.ports();
-        if a >= ports || b >= ports || a == b {
-            return Err(Refusal::Core);
-        }
+        check_pair(self.below.ports(), a, b)?;
         if b == self.own.port {
-            return Ok(Limit::Unlimited);
+            return Ok(None);
         }
         if a == self.own.port {
-            return Ok(Limit::Phases(1));
+            return Ok(Some(1));
         }
         self.below.limit(a, b)
     }
 
     fn idle(&self) -> bool {
         // A value that is idle stands, so its favoured port is a port.
-        if self.own.waits || self.own.served.is_some() || self.own.port >= self.below.ports() {
-            return false;
-        }
-        self.below.idle()
+        !self.own.waits
+            && self.own.served.is_none()
+            && self.own.port < self.below.ports()
+            && self.below.idle()
     }
 
     fn join(&mut self, a: u8) -> Result<(), Refusal> {
@@ -116,9 +115,7 @@ impl<B: Arbiter> Arbiter for Favour<B> {
     fn grant(&mut self) -> Result<u8, Refusal> {
         let port = self.own.port;
         if self.own.waits {
-            if self.own.served.is_some() {
-                return Err(Refusal::Busy);
-            }
+            check_free(self.own.served)?;
             self.own.waits = false;
             self.own.served = Some(port);
             return Ok(port);
@@ -136,13 +133,10 @@ impl<B: Arbiter> Arbiter for Favour<B> {
     }
 
     fn done(&mut self) -> Result<(), Refusal> {
-        if self.own.served.is_none() {
-            return Err(Refusal::Idle);
-        }
-        if !is_served(self.own.served, self.own.port) {
+        // The service of another port ends below too.
+        if self.own.served.is_some() && !is_served(self.own.served, self.own.port) {
             self.below.done()?;
         }
-        self.own.served = None;
-        Ok(())
+        end_service(&mut self.own.served)
     }
 }

@@ -1,14 +1,16 @@
 // Settling for callers of another language: a plan in numbers comes in, its outcomes in numbers go out.
 #![tactic(auto)]
 
+ghost use Rattle.ffi.specs.Layout.{SameNumbers, TellsOutcome};
+
 use bus_line::bus_of;
 use settler::plan::Plan;
 use std::alloc::Global;
 use tasks::outcome::Outcome;
-use tasks::platform::BusLine;
 use tasks::refusal::Refusal;
 use tasks::task::Row;
 
+// A row of a plan, laid out as C lays it out: rows may gain a field without a change to what C callers pass.
 #[repr(C)]
 #[derive(Clone, Copy)]
 pub struct Numbers {
@@ -22,7 +24,24 @@ pub struct Numbers {
     pub r: u32,
 }
 
-// What settling found for one task: 1 if it is late, and the ticks.
+impl From<Numbers> for Row {
+    ghost from_gives = { SameNumbers };
+
+    fn from(task: Numbers) -> Row {
+        Row {
+            id: task.id,
+            core: task.core,
+            rank: task.rank,
+            spacing: task.spacing,
+            deadline: task.deadline,
+            a: task.a,
+            e: task.e,
+            r: task.r,
+        }
+    }
+}
+
+// What settling found for one task: 1 if it is late, and the ticks. C has no enum with a number in each case.
 #[repr(C)]
 #[derive(Clone, Copy)]
 pub struct Found {
@@ -30,8 +49,19 @@ pub struct Found {
     pub ticks: u64,
 }
 
+impl From<Outcome> for Found {
+    ghost from_gives = { TellsOutcome };
+
+    fn from(outcome: Outcome) -> Found {
+        match outcome {
+            Outcome::Window(ticks) => Found { late: 0, ticks },
+            Outcome::Late(ticks) => Found { late: 1, ticks },
+        }
+    }
+}
+
 // Makes a plan of the tasks, settles it so many times on the arbiter of its bus line, and tells each task's outcome as far as there is room.
-// Answers how many tasks are late, or the greatest number there is where a call was refused.
+// Answers how many tasks are late, or the greatest number there is where a call was refused, since C has no Result.
 // The crate `ffi_c` gives it to C.
 pub fn settler_settle(
     heap: Global,
@@ -42,10 +72,7 @@ pub fn settler_settle(
     times: u32,
     found: &mut [Found],
 ) -> usize {
-    match settled(heap, cores, bottom, favours, tasks, times, found) {
-        Ok(late) => late,
-        Err(_) => usize::MAX,
-    }
+    settled(heap, cores, bottom, favours, tasks, times, found).unwrap_or(usize::MAX)
 }
 
 fn settled(
@@ -59,37 +86,16 @@ fn settled(
 ) -> Result<usize, Refusal> {
     let mut plan = Plan::open(heap, cores, bottom, favours)?;
     for task in tasks {
-        plan.add(row_of(*task))?;
+        plan.add(Row::from(*task))?;
     }
-    let bus = bus_of(BusLine::new(bottom, favours)?, cores)?;
+    let platform = plan.platform();
+    let bus = bus_of(platform.line, platform.cores)?;
     let mut late = 0;
     for _ in 0..times {
         late = plan.settle(&bus)?;
     }
-    for i in 0..tasks.len() {
-        if i < found.len() {
-            found[i] = told(plan.window(tasks[i].id)?);
-        }
+    for (slot, task) in found.iter_mut().zip(tasks) {
+        *slot = Found::from(plan.window(task.id)?);
     }
     Ok(late)
-}
-
-fn row_of(task: Numbers) -> Row {
-    Row {
-        id: task.id,
-        core: task.core,
-        rank: task.rank,
-        spacing: task.spacing,
-        deadline: task.deadline,
-        a: task.a,
-        e: task.e,
-        r: task.r,
-    }
-}
-
-fn told(outcome: Outcome) -> Found {
-    match outcome {
-        Outcome::Window(ticks) => Found { late: 0, ticks },
-        Outcome::Late(ticks) => Found { late: 1, ticks },
-    }
 }

@@ -1,8 +1,7 @@
 -- The batches keep the turn rule. Assumes nothing.
-use Rattle.std.specs.Prelude.{◌≡◌, ℕ, ◌+◌, ◌^◌, ◌<◌, ◌≤◌, Bool, true, false, ◌||◌, ◌≢◌, nat_lt, refl}
+use Rattle.std.specs.Prelude.{◌≡◌, ℕ, ◌+◌, ◌^◌, ◌<◌, ◌≤◌, true, false, ◌||◌, ◌≢◌, nat_lt, refl, Some}
 use Rattle.std.proofs.Common.{sym, ap, subst, ◌∙◌, inl, inr, arith}
-use Rattle.std.proofs.lemmas.Bool.{cases_eq, cases_Bool, both_ways, lt-ltb}
-use Rattle.tasks.specs.declared.limit.Limit.TheVariants.{Phases}
+use Rattle.std.proofs.lemmas.Bool.{cases_eq, both_ways, lt-ltb, or_parts, or_from, or_right}
 use Rattle.bus.specs.Masks.{has}
 use Rattle.bus.specs.Turns.{Sound, Joined, Granted, Done}
 use Rattle.bus.specs.Means.{Laws}
@@ -13,30 +12,15 @@ use Rattle.makers_arbiter.specs.Turnover.{in_either, opened, behind}
 use Rattle.makers_arbiter.specs.Account.{turns_before, still_before, batch_meaning, batch_means, BatchJoins, BatchGrants, BatchEnds}
 use Rattle.makers_arbiter.specs.Opened.{turns_le, turns_out, turns_falls, Opens, opens}
 
-or_left_false : (u v : Bool) → (u || v) ≡ false → u ≡ false
-or_left_false true v e = absurd (both_ways true e refl)
-or_left_false false v e = refl
-
-or_true_right : (u v : Bool) → v ≡ true → (u || v) ≡ true
-or_true_right true v e = refl
-or_true_right false v e = e
-
-or_both_false : (u v : Bool) → u ≡ false → v ≡ false → (u || v) ≡ false
-or_both_false true v e f = absurd (both_ways true e refl)
-or_both_false false v e f = f
-
 either_below : (m n p k : ℕ) → m < 2 ^ k → n < 2 ^ k → in_either m n p ≡ true → p < k
-either_below m n p k h l e = elim (cases_Bool (has m p)) [
-  | inl t ↦ has_below m p k h t
-  | inr f ↦ has_below n p k l (let r : has n p ≡ true = rw f at e in r)
-]
+either_below m n p k h l e = grind (arith, has_below m p k h, has_below n p k l)
 
 batch_sound : (s : Batches) → Sound (batch_meaning s)
 batch_sound s = record {
-  some = s.some;
-  few = s.few;
+  some = s.ports.some;
+  few = s.ports.few;
   limits = λ a b ha hb ne. (omega arith, omega arith);
-  waits = λ p e. either_below s.batch s.joined p s.ports s.low s.fresh e;
+  waits = λ p e. either_below s.batch s.joined p s.ports.count s.low s.fresh e;
   serves = λ p e. (s.port p e, s.gone p e);
   still = λ a b e hb ne. turns_le (has s.batch a) (has s.batch b) (nat_lt b a);
 }
@@ -47,13 +31,13 @@ batch_joining s a t j = record {
   port = j.port;
   free = j.free;
   unserved = j.unserved;
-  waits = or_true_right (has t.batch a) (has t.joined a) (rw j.joined (has_or_same s.joined a));
+  waits = or_right (has t.batch a) (has t.joined a) (rw j.joined (has_or_same s.joined a));
   others = λ p ne. rw (j.batch, j.joined) (ap (λ u. has s.batch p || u) (has_or_other s.joined a p ne));
   serves = j.served;
   kept = λ x y e. rw j.batch (omega arith);
-  fresh = λ b h ne. served_fits s.served b (Phases (still_before t.batch a b)) (Phases 2) (turns_le (has t.batch a) (has t.batch b) (nat_lt b a))
+  fresh = λ b h ne. served_fits s.served b (Some (still_before t.batch a b)) (Some 2) (turns_le (has t.batch a) (has t.batch b) (nat_lt b a))
       (λ e.
-      let out : has t.batch b ≡ false = ap (λ m. has m b) j.batch ∙ or_left_false (has s.batch b) (has s.joined b) (s.gone b e) in
+      let out : has t.batch b ≡ false = ap (λ m. has m b) j.batch ∙ (or_parts (has s.batch b) (has s.joined b) (s.gone b e)).0 in
       rw out (turns_out (has t.batch a) (nat_lt b a)));
 }
 
@@ -64,13 +48,13 @@ batch_granting s c t j =
     let o : Opens s batch later = opens s in
     let in_batch : has batch c ≡ true = j.waited in
     let left : has t.batch c ≡ false = ap (λ m. has m c) j.batch ∙ has_xor_same batch c in_batch in
-    let gone : in_either t.batch t.joined c ≡ false = or_both_false (has t.batch c) (has t.joined c) left (ap (λ m. has m c) j.joined ∙ o.apart c in_batch) in
+    let gone : in_either t.batch t.joined c ≡ false = or_from (has t.batch c) (has t.joined c) left (ap (λ m. has m c) j.joined ∙ o.apart c in_batch) in
     let in_t : (p : ℕ) → (p ≢ c) → has t.batch p ≡ has batch p = λ p ne. ap (λ m. has m p) j.batch ∙ has_xor_other batch c p ne in
     let others : (p : ℕ) → (p ≢ c) → in_either t.batch t.joined p ≡ in_either s.batch s.joined p = λ p ne.
     ap (λ u. u || has t.joined p) (in_t p ne) ∙ ap (λ m. has batch p || has m p) j.joined ∙ o.same p in
     let apart : (a : ℕ) → in_either t.batch t.joined a ≡ true → a ≡ c → ⊥ = λ a e f. both_ways (in_either t.batch t.joined c) gone (ap (in_either t.batch t.joined) (sym f) ∙ e) in
     let waited : in_either s.batch s.joined c ≡ true = sym (o.same c) ∙ ap (λ u. u || has later c) in_batch in
-    let port : c < s.ports = has_below batch c s.ports o.low in_batch in
+    let port : c < s.ports.count = has_below batch c s.ports.count o.low in_batch in
     let after : (a b : ℕ) → in_either t.batch t.joined a ≡ true → still_before t.batch a b ≡ turns_before (has batch a) (has t.batch b) (nat_lt b a) = λ a b e.
     ap (λ u. turns_before u (has t.batch b) (nat_lt b a)) (in_t a (apart a e)) in
     let was : (a b : ℕ) → in_either t.batch t.joined a ≡ true → turns_before (has batch a) (has batch b) (nat_lt b a) ≤ still_before s.batch a b = λ a b e.
@@ -102,7 +86,7 @@ batch_ending s t j = record {
   served = j.was;
   serves = j.served;
   waits = λ p. ap (λ m. in_either m t.joined p) j.batch ∙ ap (λ m. in_either s.batch m p) j.joined;
-  still = λ x y. ap (λ m. Phases (still_before m x y)) j.batch;
+  still = λ x y. ap (λ m. Some (still_before m x y)) j.batch;
 }
 
 pub batch_laws : Laws batch_means

@@ -1,7 +1,7 @@
 -- What a grant serves from: the batch, or those who joined where the batch is empty. Assumes nothing.
 use Rattle.std.specs.Prelude.{◌≡◌, ℕ, ◌+◌, ◌^◌, ◌<◌, ◌≤◌, Bool, true, false, ◌||◌, nat_lt, refl}
 use Rattle.std.proofs.Common.{sym, ap, ◌∙◌, inl, inr, arith}
-use Rattle.std.proofs.lemmas.Bool.{cases_eq, both_ways, eq-eqb, ne_eqb}
+use Rattle.std.proofs.lemmas.Bool.{cases_eq, eq-eqb, ne_eqb}
 use Rattle.bus.specs.Masks.{has}
 use Rattle.bus.proofs.Masks.{has_none}
 use Rattle.makers_arbiter.specs.declared.Batches.{Batches}
@@ -11,39 +11,25 @@ use Rattle.makers_arbiter.specs.Account.{turns_before, still_before}
 -- ---- how often b may come before a
 
 pub turns_le : (u v w : Bool) → turns_before u v w ≤ 2
-turns_le true true true = omega arith
-turns_le true true false = omega arith
-turns_le true false w = omega arith
-turns_le false true true = omega arith
-turns_le false true false = omega arith
-turns_le false false true = omega arith
-turns_le false false false = omega arith
+turns_le u v w = grind arith
 
 -- a port outside the batch comes once at most
 pub turns_out : (u w : Bool) → turns_before u false w + 1 ≤ 2
-turns_out true w = omega arith
-turns_out false true = omega arith
-turns_out false false = omega arith
+turns_out u w = grind arith
 
 -- a port that leaves the batch uses up one of its turns
 pub turns_falls : (u w : Bool) → (u ≡ true → w ≡ true) → turns_before u false w + 1 ≤ turns_before u true w
-turns_falls true true h = omega arith
-turns_falls true false h = absurd (both_ways false refl (h refl))
-turns_falls false true h = omega arith
-turns_falls false false h = omega arith
+turns_falls u w h = grind arith
 
 -- one who joined gains when the batch is opened
 turns_gain : (v w : Bool) → turns_before true v w ≤ turns_before false false w
-turns_gain true true = omega arith
-turns_gain true false = omega arith
-turns_gain false true = omega arith
-turns_gain false false = omega arith
+turns_gain v w = grind arith
 
 -- ---- the batch that is opened, and those who stay behind
 
 pub record Opens (s : Batches) (batch later : ℕ) : Type 0 where
-  pub low : batch < 2 ^ s.ports
-  pub fresh : later < 2 ^ s.ports
+  pub low : batch < 2 ^ s.ports.count
+  pub fresh : later < 2 ^ s.ports.count
   pub apart : (p : ℕ) → has batch p ≡ true → has later p ≡ false
   -- the same ports wait
   pub same : (p : ℕ) → in_either batch later p ≡ in_either s.batch s.joined p
@@ -51,13 +37,10 @@ pub record Opens (s : Batches) (batch later : ℕ) : Type 0 where
   pub still : (a b : ℕ) → in_either s.batch s.joined a ≡ true → turns_before (has batch a) (has batch b) (nat_lt b a) ≤ still_before s.batch a b
 
 or_swap : (u v : Bool) → u ≡ false → (v || u) ≡ (u || v)
-or_swap true v e = absurd (both_ways true e refl)
-or_swap false true e = refl
-or_swap false false e = refl
+or_swap u v e = grind arith
 
 left_out : (u v : Bool) → u ≡ false → (u || v) ≡ true → v ≡ true
-left_out true v e f = absurd (both_ways true e refl)
-left_out false v e f = f
+left_out u v e f = grind arith
 
 opens_joined : (s : Batches) → s.batch ≡ 0 → Opens s s.joined 0
 opens_joined s z =

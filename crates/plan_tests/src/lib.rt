@@ -3,8 +3,10 @@
 
 #[cfg(test)]
 mod tests {
+    use rules::table::Table;
     use settler::plan::Plan;
     use std::test::Fail;
+    use tasks::platform::{BusLine, Platform};
     use tasks::refusal::Refusal;
     use tasks::task::Row;
 
@@ -39,11 +41,8 @@ mod tests {
             (0, 1, &[9, 9, 9], Some(Refusal::Kind)),
         ];
         for (cores, bottom, favours, expected) in table {
-            let answer = match Plan::open(rt.alloc(), cores, bottom, favours) {
-                Ok(_) => None,
-                Err(why) => Some(why),
-            };
-            assert_eq!(rt; answer, expected);
+            let answer = Plan::open(rt.alloc(), cores, bottom, favours);
+            assert_eq!(rt; answer.err(), expected);
         }
     }
 
@@ -299,6 +298,38 @@ mod tests {
         assert_eq!(rt; plan.remove(9), Err(Refusal::Unknown));
         assert_eq!(rt; plan.remove(2), Ok(()));
         assert_eq!(rt; plan.remove(2), Err(Refusal::Unknown));
+        Ok(())
+    }
+
+    #[test]
+    fn a_table_keeps_its_tasks(rt: HostRuntime) -> Result<(), Fail> {
+        let platform = Platform::new(2, BusLine::new(1, &[])?)?;
+        let other = Platform::new(1, BusLine::new(2, &[0])?)?;
+        let mut table = Table::new(rt.alloc(), platform)?;
+        assert_eq!(rt; table.add(SOUND), Ok(()));
+        assert_eq!(rt; table.add(SOUND), Err(Refusal::Known));
+        let third = Row { rank: 3, ..SOUND };
+        assert_eq!(rt; table.change(third), Ok(()));
+        assert_eq!(rt; table.place_of(1), Some(0));
+        assert_eq!(rt; table.rows(), [third].as_slice());
+        assert_eq!(rt; table.remove(2), Err(Refusal::Unknown));
+        assert_eq!(rt; table.platform(), platform);
+        table.begin(other);
+        assert_eq!(rt; table.place_of(1), None);
+        assert_eq!(rt; table.platform(), other);
+        Ok(())
+    }
+
+    #[test]
+    fn refusals_are_printed(rt: HostRuntime) -> Result<(), Fail> {
+        let table = [
+            (Refusal::Times, "refused 12"),
+            (Refusal::Script(7), "refused 19"),
+            (Refusal::Memory, "no memory"),
+        ];
+        for (why, text) in table {
+            assert_eq!(rt; why.to_string(rt.alloc())?.as_str(), text);
+        }
         Ok(())
     }
 }

@@ -1,74 +1,42 @@
 -- What the queue's code does to its line. Assumes nothing.
-use Rattle.std.proofs.Common.{◌≡◌, ℕ, ◌+◌, ◌-◌, ◌<◌, ◌≤◌, true, false, List, [], ◌∷◌, ◌++◌, length, get_or, take, drop, set, Some, Option, sym, refl, ap, ◌∙◌, subst, arith, length-append, length-take}
-use Rattle.std.proofs.lemmas.List.{take_more_set}
-use Rattle.std.proofs.lemmas.Bool.{eq-eqb}
+use Rattle.std.proofs.Common.{◌≡◌, ℕ, zero, suc, ◌+◌, ◌-◌, ◌<◌, ◌≤◌, true, false, List, [], ◌∷◌, ◌++◌, length, get_or, take, drop, set, sym, ap, ◌∙◌, inl, inr, arith, length-append}
+use Rattle.std.proofs.lemmas.Bool.{cases_eq}
+use Rattle.std.proofs.lemmas.Cmp.{nat_eq_equiv}
+use Rattle.std.proofs.lemmas.Grind.{common_steps}
+use Rattle.std.proofs.lemmas.List.{take_more_set, take-append-le, length-take-le}
+use Rattle.std.proofs.lemmas.Map.Keys.{IsDistinct-push}
+use Rattle.std.proofs.lemmas.Map.Steps.{length-le_from_distinct_below}
 use Rattle.queue.specs.declared.Queue.{Queue}
-use Rattle.queue.specs.Lines.{among, apart}
+use Rattle.queue.specs.Lines.{among, Apart}
 use Rattle.queue.specs.Account.{line}
-use Rattle.queue.specs.Line.{Apart, apart_in, apart_out, ports_in, apart_length, one_among, front, among_other, among_more, below_joined, apart_joined}
+use Rattle.queue.specs.Line.{among_other}
 
-pub fits : (s : Queue) → s.len ≤ length s.order
-fits s = omega (arith, s.size, length-take s.len s.order)
+pub below_joined : (s : Queue) (a : ℕ) → a < s.ports.count → (p : ℕ) → among p (line s ++ (a ∷ [])) ≡ true → p < s.ports.count
+below_joined s a l p e = elim (cases_eq p a) [ inl q ↦ omega (arith, q, l) | inr ne ↦ s.below p (sym (among_other (line s) a p ne) ∙ e) ]
 
 -- a port that does not wait finds room
-pub room : (s : Queue) (a : ℕ) → a < s.ports → among a (line s) ≡ false → s.len < 16
-room s a h f = omega (arith, s.few, s.size, apart_length s.ports (a ∷ line s) (f, apart_in (line s) s.once) (h, ports_in s.ports (line s) s.below))
-
-pub first_waits : (s : Queue) → (s.len ≡ 0 → ⊥) → (p : ℕ) × (among p (line s) ≡ true)
-first_waits s n = (get_or s.order 0 0, one_among s.len s.order (get_or s.order 0 0) 0 (omega (arith, n)) (omega (arith, n, fits s)) refl)
+pub room : (s : Queue) (a : ℕ) → a < s.ports.count → among a (line s) ≡ false → s.len < 16
+room s a l f =
+    let most = length-le_from_distinct_below (line s ++ (a ∷ [])) s.ports.count (IsDistinct-push nat_eq_equiv (line s) a s.once f) (below_joined s a l) in
+    omega (arith, most, length-append (line s) (a ∷ []), length-take-le s.len s.order s.fits, s.ports.few)
 
 pub joined_line : (s : Queue) (a end : ℕ) → end ≡ s.len → end < length s.order → take (s.len + 1) (set s.order end a) ≡ line s ++ (a ∷ [])
 joined_line s a end e l = ap (λ k. take (k + 1) (set s.order end a)) (sym e) ∙ take_more_set s.order end a l ∙ ap (λ k. take k s.order ++ (a ∷ [])) e
 
+pub joined_apart : (s : Queue) (a : ℕ) → among a (line s) ≡ false → Apart (line s ++ (a ∷ []))
+joined_apart s a f = IsDistinct-push nat_eq_equiv (line s) a s.once f
+
+pub first_waits : (s : Queue) → (s.len ≡ 0 → ⊥) → (p : ℕ) × (among p (line s) ≡ true)
+first_waits s n = (get_or s.order 0 0, grind (arith, common_steps))
+
+-- the line without its first
+front : (n : ℕ) (xs : List ℕ) → 0 < n → n ≤ length xs → take n xs ≡ get_or xs 0 0 ∷ take (n - 1) (drop 1 xs ++ take 1 xs)
+front zero xs h l = absurd (omega arith)
+front (suc n) [] h l = absurd (omega arith)
+front (suc n) (x ∷ xs) h l = let e : suc n - 1 ≡ n = omega arith in rw e (ap (λ ys. x ∷ ys) (sym (take-append-le n xs (x ∷ []) (omega arith))))
+
 pub granted_line : (s : Queue) (after : List ℕ) → (s.len ≡ 0 → ⊥) → after ≡ drop 1 s.order ++ take 1 s.order → line s ≡ get_or s.order 0 0 ∷ take (s.len - 1) after
-granted_line s after n e = front s.len s.order (omega (arith, n)) (fits s) ∙ ap (λ xs. get_or s.order 0 0 ∷ take (s.len - 1) xs) (sym e)
+granted_line s after n e = front s.len s.order (omega (arith, n)) s.fits ∙ ap (λ xs. get_or s.order 0 0 ∷ take (s.len - 1) xs) (sym e)
 
--- the standing facts of a queue's fields
-pub record Facts (ports len : ℕ) (order : List ℕ) (served : Option ℕ) : Type 0 where
-  pub some : 1 ≤ ports
-  pub few : ports ≤ 16
-  pub size : length (take len order) ≡ len
-  pub below : (p : ℕ) → among p (take len order) ≡ true → p < ports
-  pub once : apart (take len order) ≡ true
-  pub port : (p : ℕ) → served ≡ Some p → p < ports
-  pub gone : (p : ℕ) → served ≡ Some p → among p (take len order) ≡ false
-
-facts : (ports len : ℕ) (order : List ℕ) (served : Option ℕ) → 1 ≤ ports → ports ≤ 16 → length (take len order) ≡ len
-    → ((p : ℕ) → among p (take len order) ≡ true → p < ports) → apart (take len order) ≡ true
-    → ((p : ℕ) → served ≡ Some p → p < ports) → ((p : ℕ) → served ≡ Some p → among p (take len order) ≡ false) → Facts ports len order served
-facts ports len order served some few size below once port gone = record {
-  some = some;
-  few = few;
-  size = size;
-  below = below;
-  once = once;
-  port = port;
-  gone = gone;
-}
-
-pub joined_facts : (s : Queue) (a end : ℕ) → end ≡ s.len → end < length s.order → a < s.ports → among a (line s) ≡ false → (s.served ≡ Some a → ⊥)
-    → Facts s.ports (s.len + 1) (set s.order end a) s.served
-joined_facts s a end e l h f u =
-    let is : take (s.len + 1) (set s.order end a) ≡ line s ++ (a ∷ []) = joined_line s a end e l in
-    facts s.ports (s.len + 1) (set s.order end a) s.served s.some s.few
-    (ap length is ∙ length-append (line s) (a ∷ []) ∙ (let k : length (line s) + 1 ≡ s.len + 1 = omega (arith, s.size) in k))
-    (λ p w. below_joined s.ports (line s) a s.below h p (ap (among p) (sym is) ∙ w))
-    (ap apart is ∙ apart_joined (line s) a s.once f)
-    s.port
-    (λ p g. ap (among p) is ∙ among_other (line s) a p (λ q. u (g ∙ ap Some q)) ∙ s.gone p g)
-
-pub granted_facts : (s : Queue) (after : List ℕ) → (s.len ≡ 0 → ⊥) → after ≡ drop 1 s.order ++ take 1 s.order
-    → Facts s.ports (s.len - 1) after (Some (get_or s.order 0 0))
-granted_facts s after n e =
-    let c : ℕ = get_or s.order 0 0 in
-    let ys : List ℕ = take (s.len - 1) after in
-    let is : line s ≡ c ∷ ys = granted_line s after n e in
-    let first : among c (line s) ≡ true = ap (among c) is ∙ rw (eq-eqb c c refl) refl in
-    let rest : (p : ℕ) → among p ys ≡ true → among p (line s) ≡ true = λ p w. ap (among p) is ∙ rw w (among_more c p) in
-    let once : Apart (c ∷ ys) = apart_in (c ∷ ys) (ap apart (sym is) ∙ s.once) in
-    let size : length (c ∷ ys) ≡ s.len = ap length (sym is) ∙ s.size in
-    facts s.ports (s.len - 1) after (Some c) s.some s.few (omega (arith, size))
-    (λ p w. s.below p (rest p w))
-    (apart_out ys once.1)
-    (λ p g. (let same : c ≡ p = cc in subst (λ x. x < s.ports) same (s.below c first)))
-    (λ p g. (let same : c ≡ p = cc in ap (λ x. among x ys) (sym same) ∙ once.0))
+-- what the calls' goals rest on
+pub ruleset line_steps = (first_waits, room, below_joined, joined_line, joined_apart, granted_line, among_other)

@@ -1,6 +1,5 @@
 -- The queue's account of itself: ports in a line, the first is granted and the last joins. Assumes nothing.
 use Rattle.std.specs.Prelude.{◌≡◌, ℕ, ◌<◌, false, List, [], ◌∷◌, ◌++◌, take, Some, None}
-use Rattle.tasks.specs.declared.limit.Limit.TheVariants.{Phases}
 use Rattle.bus.specs.Turns.{Meaning, Serving}
 use Rattle.bus.specs.Means.{Means}
 use Rattle.queue.specs.declared.Queue.{Queue}
@@ -12,33 +11,33 @@ line s = take s.len s.order
 
 abbrev pub queue_meaning : Queue → Meaning
 queue_meaning s = record {
-  ports = s.ports;
-  limit = λ _ _. Phases 1;
+  ports = s.ports.count;
+  limit = λ _ _. Some 1;
   waits = λ p. among p (line s);
   serves = s.served;
-  still = λ a b. Phases (ahead a b (line s));
+  still = λ a b. Some (ahead a b (line s));
 }
 
 -- a port that neither waits nor is in service joins at the end
 pub record QueueJoins (s : Queue) (a : ℕ) (t : Queue) : Type 0 where
-  pub port : a < s.ports
+  pub port : a < s.ports.count
   pub free : among a (line s) ≡ false
   pub unserved : s.served ≡ Some a → ⊥
-  pub ports : t.ports ≡ s.ports
+  pub ports : t.ports.count ≡ s.ports.count
   pub line : line t ≡ line s ++ (a ∷ [])
   pub served : t.served ≡ s.served
 
 -- the first leaves the line for the service
 pub record QueueGrants (s : Queue) (c : ℕ) (t : Queue) : Type 0 where
   pub unserved : s.served ≡ None
-  pub ports : t.ports ≡ s.ports
+  pub ports : t.ports.count ≡ s.ports.count
   pub line : line s ≡ c ∷ line t
   pub served : t.served ≡ Some c
 
 -- the service ends, and the line stays
 pub record QueueEnds (s : Queue) (t : Queue) : Type 0 where
   pub was : Serving (queue_meaning s)
-  pub ports : t.ports ≡ s.ports
+  pub ports : t.ports.count ≡ s.ports.count
   pub line : line t ≡ line s
   pub served : t.served ≡ None
 
@@ -48,6 +47,6 @@ queue_means = record { meaning = queue_meaning; stands = λ _. Unit {0}; joins =
 
 -- a queue of n ports in which nobody waits and nobody is in service
 pub record Fresh (n : ℕ) (s : Queue) : Type 0 where
-  pub ports : s.ports ≡ n
+  pub ports : s.ports.count ≡ n
   pub line : line s ≡ []
   pub served : s.served ≡ None

@@ -1,20 +1,19 @@
 -- The queue keeps the turn rule. Assumes nothing.
-use Rattle.std.specs.Prelude.{◌≡◌, ℕ, ◌≤◌, Bool, true, false, cond, List, [], ◌∷◌, ◌++◌, ◌==◌, refl}
-use Rattle.std.proofs.Common.{sym, ap, subst, ◌∙◌, arith}
+use Rattle.std.specs.Prelude.{◌≡◌, ℕ, ◌≤◌, Bool, true, false, cond, List, [], ◌∷◌, ◌++◌, ◌==◌, refl, Some}
+use Rattle.std.proofs.Common.{ap, subst, ◌∙◌, arith}
 use Rattle.std.proofs.lemmas.Bool.{both_ways, eq-eqb, ne_eqb}
-use Rattle.tasks.specs.declared.limit.Limit.TheVariants.{Phases}
 use Rattle.bus.specs.Turns.{Sound, Joined, Granted, Done}
 use Rattle.bus.specs.Means.{Laws}
 use Rattle.bus.proofs.Served.{served_fits}
 use Rattle.queue.specs.declared.Queue.{Queue}
-use Rattle.queue.specs.Lines.{among, ahead}
+use Rattle.queue.specs.Lines.{among, ahead, Apart}
 use Rattle.queue.specs.Account.{line, queue_meaning, queue_means, QueueJoins, QueueGrants, QueueEnds}
-use Rattle.queue.specs.Line.{Apart, apart_in, among_end, among_other, ahead_le, ahead_end, ahead_absent}
+use Rattle.queue.specs.Line.{apart_first, among_end, among_other, ahead_le, ahead_end, ahead_absent}
 
 queue_sound : (s : Queue) → Sound (queue_meaning s)
 queue_sound s = record {
-  some = s.some;
-  few = s.few;
+  some = s.ports.some;
+  few = s.ports.few;
   limits = λ a b ha hb ne. (omega arith, omega arith);
   waits = s.below;
   serves = λ p e. (s.port p e, s.gone p e);
@@ -34,30 +33,29 @@ queue_joining s a t j =
       others = λ p ne. rw e (among_other xs a p ne);
       serves = j.served;
       kept = λ x y w. rw e (omega (arith, ahead_end xs a x y w));
-      fresh = λ b h ne. served_fits s.served b (Phases (ahead a b (line t))) (Phases 1) (ahead_le a b (line t))
+      fresh = λ b h ne. served_fits s.served b (Some (ahead a b (line t))) (Some 1) (ahead_le a b (line t))
           (λ f. omega (arith, ahead_absent (line t) a b (ap (among b) e ∙ among_other xs a b ne ∙ s.gone b f)));
     }
 
 ahead_more : (u : Bool) (n : ℕ) → n ≤ 1 → n ≤ cond u 1 n
-ahead_more true n h = h
-ahead_more false n h = omega arith
+ahead_more u n h = grind arith
 
 queue_granting : (s : Queue) (c : ℕ) (t : Queue) → QueueGrants s c t → Granted (queue_meaning s) c (queue_meaning t)
 queue_granting s c t j =
     let ys : List ℕ = line t in
     let e : line s ≡ c ∷ ys = j.line in
-    let apart : (among c ys ≡ false) × Apart ys = subst Apart e (apart_in (line s) s.once) in
+    let out : among c ys ≡ false = apart_first c ys (subst Apart e s.once) in
     let waited : among c (line s) ≡ true = rw e (rw (eq-eqb c c refl) refl) in
-    let other : (a : ℕ) → among a ys ≡ true → c ≡ a → ⊥ = λ a w q. both_ways (among c ys) apart.0 (ap (λ x. among x ys) q ∙ w) in
+    let other : (a : ℕ) → among a ys ≡ true → c ≡ a → ⊥ = λ a w q. both_ways (among c ys) out (ap (λ x. among x ys) q ∙ w) in
     record {
       bus = record { ports = j.ports; limit = λ x y. refl };
       port = s.below c waited;
       unserved = j.unserved;
       waited = waited;
-      leaves = apart.0;
-      others = λ p ne. rw e (rw (ne_eqb c p (λ q. ne (sym q))) refl);
+      leaves = out;
+      others = λ p ne. rw e (rw (ne_eqb p c ne) refl);
       serves = j.served;
-      falls = λ a w. rw e (rw (ne_eqb c a (other a w)) (rw (eq-eqb c c refl) (omega (arith, ahead_absent ys a c apart.0))));
+      falls = λ a w. rw e (rw (ne_eqb c a (other a w)) (rw (eq-eqb c c refl) (omega (arith, ahead_absent ys a c out))));
       kept = λ a b w. rw e (rw (ne_eqb c a (other a w)) (ahead_more (c == b) (ahead a b ys) (ahead_le a b ys)));
     }
 
@@ -67,7 +65,7 @@ queue_ending s t j = record {
   served = j.was;
   serves = j.served;
   waits = λ p. ap (among p) j.line;
-  still = λ x y. ap (λ xs. Phases (ahead x y xs)) j.line;
+  still = λ x y. ap (λ xs. Some (ahead x y xs)) j.line;
 }
 
 pub queue_laws : Laws queue_means

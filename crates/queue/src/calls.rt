@@ -1,26 +1,24 @@
 // The queue's calls.
-ghost use Rattle.std.specs.Prelude.{◌≡◌, ◌<◌, ◌⊎◌, MatchResult};
-ghost use Rattle.tasks.specs.Refusals.{told, refusal};
+ghost use Rattle.std.specs.Prelude.{◌≡◌, MatchResult};
+ghost use Rattle.bus.specs.Means.{PortsRefused};
 ghost use Rattle.queue.specs.Lines.{among};
 ghost use Rattle.queue.specs.Account.{line, queue_means, Fresh};
 ghost use Rattle.queue.specs.Laws.{queue_laws};
 
 use crate::Queue;
-use bus::arbiter::{Arbiter, MOST_PORTS};
-use bus::service::is_served;
+use bus::arbiter::Arbiter;
+use bus::ports::Ports;
+use bus::service::{check_free, end_service, is_served};
 use tasks::limit::Limit;
 use tasks::refusal::Refusal;
 
 impl Queue {
     // An idle queue. Refused: 6, the ports are not 1 to 16.
     pub fn new(ports: u8) -> Result<Queue, Refusal>
-        ensures { MatchResult result (λ queue. Fresh ports queue) (λ e. (told e ≡ refusal 6) × ((ports < 1) ⊎ (16 < ports))) }
+        ensures { MatchResult result (λ queue. Fresh ports queue) (λ e. PortsRefused ports e) }
     {
-        if ports < 1 || ports > MOST_PORTS {
-            return Err(Refusal::Core);
-        }
         Ok(Queue {
-            ports,
+            ports: Ports::new(ports)?,
             len: 0,
             order: [0; 16],
             served: None,
@@ -30,29 +28,23 @@ impl Queue {
     fn has(&self, a: u8) -> bool
         ensures { result ≡ among a (line self.now) }
     {
-        for i in 0..usize::from(self.len) {
-            if self.order[i] == a {
-                return true;
-            }
-        }
-        false
+        self.order[..usize::from(self.len)].contains(&a)
     }
 }
 
+#[tactic(auto, using(crate::proofs::Steps::line_steps))]
 impl Arbiter for Queue {
     ghost means = { queue_means };
 
     ghost lawful = { queue_laws };
 
     fn ports(&self) -> u8 {
-        self.ports
+        self.ports.count()
     }
 
     fn limit(&self, a: u8, b: u8) -> Result<Limit, Refusal> {
-        if a >= self.ports || b >= self.ports || a == b {
-            return Err(Refusal::Core);
-        }
-        Ok(Limit::Phases(1))
+        self.ports.check_pair(a, b)?;
+        Ok(Some(1))
     }
 
     fn idle(&self) -> bool {
@@ -60,9 +52,7 @@ impl Arbiter for Queue {
     }
 
     fn join(&mut self, a: u8) -> Result<(), Refusal> {
-        if a >= self.ports {
-            return Err(Refusal::Core);
-        }
+        self.ports.check(a)?;
         if is_served(self.served, a) || self.has(a) {
             return Err(Refusal::Twice);
         }
@@ -75,9 +65,7 @@ impl Arbiter for Queue {
         if self.len == 0 {
             return Err(Refusal::NoneWaits);
         }
-        if self.served.is_some() {
-            return Err(Refusal::Busy);
-        }
+        check_free(self.served)?;
         let c = self.order[0];
         self.order.rotate_left(1);
         self.len -= 1;
@@ -86,10 +74,6 @@ impl Arbiter for Queue {
     }
 
     fn done(&mut self) -> Result<(), Refusal> {
-        if self.served.is_none() {
-            return Err(Refusal::Idle);
-        }
-        self.served = None;
-        Ok(())
+        end_service(&mut self.served)
     }
 }

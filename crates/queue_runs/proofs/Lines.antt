@@ -1,6 +1,5 @@
 -- The queue's line after a course.
-use Rattle.std.proofs.Common.{◌≡◌, ℕ, false, List, [], ◌∷◌, ◌++◌, sym, refl, ap, ◌∙◌}
-use Rattle.std.proofs.lemmas.Bool.{both_ways, eq-eqb}
+use Rattle.std.proofs.Common.{◌≡◌, ℕ, false, arith, List, [], ◌∷◌, ◌++◌, sym, refl, ap, ◌∙◌}
 use Rattle.bus.specs.Courses.{Event, Course}
 use Rattle.queue.specs.declared.Queue.{Queue}
 use Rattle.queue.specs.Lines.{among}
@@ -10,7 +9,7 @@ use Rattle.queue_runs.specs.Queued.{behind, front, line_after, TheQueueLeavesNoC
 
 nobody : (l : List ℕ) → ((p : ℕ) → among p l ≡ false) → l ≡ []
 nobody [] h = refl
-nobody (x ∷ xs) h = absurd (both_ways (among x (x ∷ xs)) (h x) (rw (eq-eqb x x refl) refl))
+nobody (x ∷ xs) h = grind (arith, h x)
 
 line_after_lem : (s : Queue) → line s ≡ [] → {es : List Event} {t : Queue} → Course queue_means s es t → line t ≡ line_after es
 line_after_lem s e (Course.start) = e

@@ -19,7 +19,7 @@ all_at_0 = record {
 -- From moment 20 on, all three have ended, and the log's rows are these: the task's place, its release, start, A granted, A end, E end, R
 -- granted, end. 0 0 0 0 2 7 7 8, then 1 0 8 8 11 17 17 19, then 2 0 0 2 6 14 14 16.
 abbrev pub TheLogOfTheBoxOnTheQueue : Type 0
-TheLogOfTheBoxOnTheQueue = (s t : Queue) (choices : List ℕ) (n : ℕ) → Idle (queue_meaning s) → s.ports ≡ 2 → 20 ≤ n
+TheLogOfTheBoxOnTheQueue = (s t : Queue) (choices : List ℕ) (n : ℕ) → Idle (queue_meaning s) → s.ports.count ≡ 2 → 20 ≤ n
     → Course queue_means s (run (box 50) all_at_0 choices n).events t
     → Complete all_at_0 (run (box 50) all_at_0 choices n)
     × ((k : ℕ) → k < 3 → (log_of all_at_0 (run (box 50) all_at_0 choices n)).job k ≡ first_jobs.job k)

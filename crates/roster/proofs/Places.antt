@@ -1,28 +1,27 @@
 -- What insertion by a total order gives: the place that the code finds is the definition's, and what was in order stays in order.
-use Rattle.std.proofs.Common.{◌≡◌, ℕ, suc, ◌+◌, ◌<◌, ◌≤◌, true, false, not, List, [], ◌∷◌, length, get_or, drop, Ordering, Less, Equal, Greater, sym, refl, ap, ◌∙◌, ⊎_elim}
-use Rattle.std.proofs.lemmas.List.{at_drop_more, at_drop_all}
-use Rattle.std.proofs.lemmas.Bool.{cases_Bool, and_parts, and_from}
-use Rattle.std.specs.List.{insert}
+use Rattle.std.proofs.Common.{◌≡◌, ℕ, suc, ◌+◌, ◌<◌, ◌≤◌, Bool, true, false, not, List, [], ◌∷◌, length, Ordering, Less, Equal, Greater, refl, ap, ◌∙◌, ⊎_elim, arith}
+use Rattle.std.proofs.lemmas.Bool.{cases_Bool, cases_lt, lt-ltb, le-ltb, and_parts, and_from}
+use Rattle.std.proofs.lemmas.List.Sums.{prefix_len-le-length}
+use Rattle.std.specs.List.{insert, position, position_or_len}
+use Rattle.std.specs.Option.{unwrap_or}
 use Rattle.std.specs.Cmp.{IsTotalOrder}
 use Rattle.std.specs.Ordering.{is_lt, ordering_reverse}
 use Rattle.roster.specs.Order.{insert_by, place_by, none_less, rises}
 
+-- the first that passes, or the end
+pub position_or_end : {X : Type 0} (test : X → Bool) (xs : List X) → unwrap_or (position test xs) (length xs) ≡ position_or_len test xs
+position_or_end test xs =
+    let first = position_or_len test xs in
+    ⊎_elim
+    (λ (inside : first < length xs). rw (lt-ltb first (length xs) inside) refl)
+    (λ (past : length xs ≤ first). rw (le-ltb first (length xs) past) (omega (arith, prefix_len-le-length (λ x. not (test x)) xs)))
+    (cases_lt first (length xs))
+
 module _ {X : Type 0} (cmp : X → X → Ordering) (x : X) where
-  pub place_less : (xs : List X) (i : ℕ) (y : X) → i < length xs → y ≡ get_or xs i y → is_lt (cmp x y) ≡ true → place_by cmp x (drop i xs) ≡ 0
-  place_less xs i y h is lt =
-      at_drop_more (place_by cmp x) xs i y h ∙ ap (λ (z : X). place_by cmp x (z ∷ drop (i + 1) xs)) (sym is) ∙ rw lt refl
-
-  pub place_more : (xs : List X) (i : ℕ) (y : X) → i < length xs → y ≡ get_or xs i y → is_lt (cmp x y) ≡ false → place_by cmp x (drop i xs) ≡ suc (place_by cmp x (drop (i + 1) xs))
-  place_more xs i y h is no_lt =
-      at_drop_more (place_by cmp x) xs i y h ∙ ap (λ (z : X). place_by cmp x (z ∷ drop (i + 1) xs)) (sym is) ∙ rw no_lt refl
-
-  pub place_all : (xs : List X) (i : ℕ) → length xs ≤ i → place_by cmp x (drop i xs) ≡ 0
-  place_all xs i h = at_drop_all (place_by cmp x) xs i h
-
   pub inserted_is : (xs : List X) → insert xs (place_by cmp x xs) x ≡ insert_by cmp x xs
   inserted_is [] = refl
   inserted_is (y ∷ ys) =
-      ⊎_elim (λ (e : is_lt (cmp x y) ≡ true). rw e refl) (λ (e : is_lt (cmp x y) ≡ false). rw e (ap (λ (zs : List X). y ∷ zs) (inserted_is ys))) (cases_Bool (is_lt (cmp x y)))
+      ⊎_elim (λ (e : is_lt (cmp x y) ≡ true). rw e refl) (λ (e : is_lt (cmp x y) ≡ false). rw e (let more : 1 + place_by cmp x ys ≡ suc (place_by cmp x ys) = omega arith in rw more (ap (λ (zs : List X). y ∷ zs) (inserted_is ys)))) (cases_Bool (is_lt (cmp x y)))
 
 -- what an insertion leaves at the place that was found in a slice of the items
 pub put_is : {X : Type 0} (cmp : X → X → Ordering) (x : X) {xs slice last : List X} {i : ℕ} → i ≡ place_by cmp x slice → slice ≡ xs → last ≡ insert xs i x → last ≡ insert_by cmp x xs

@@ -1,6 +1,7 @@
 -- Insertion into a list that rises by a total order. Assumes nothing.
-use Rattle.std.specs.Prelude.{ℕ, suc, Bool, true, cond, not, ◌&&◌, List, [], ◌∷◌}
+use Rattle.std.specs.Prelude.{ℕ, Bool, true, cond, not, ◌&&◌, List, [], ◌∷◌}
 use Rattle.std.specs.declared.cmp.Ordering.{Ordering}
+use Rattle.std.specs.List.{position_or_len}
 use Rattle.std.specs.Ordering.{is_lt}
 
 -- x before the first that it is less than
@@ -10,8 +11,7 @@ insert_by cmp x (y ∷ ys) = cond (is_lt (cmp x y)) (x ∷ y ∷ ys) (y ∷ inse
 
 -- the place at which it then stands
 abbrev pub place_by : {X : Type 0} → (X → X → Ordering) → X → List X → ℕ
-place_by cmp x [] = 0
-place_by cmp x (y ∷ ys) = cond (is_lt (cmp x y)) 0 (suc (place_by cmp x ys))
+place_by cmp x xs = position_or_len (λ y. is_lt (cmp x y)) xs
 
 -- no y is less than x
 abbrev pub none_less : {X : Type 0} → (X → X → Ordering) → X → List X → Bool

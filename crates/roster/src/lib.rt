@@ -8,22 +8,22 @@ ghost use Rattle.roster.specs.Order.{insert_by, place_by, rises};
 
 use std::alloc::{AllocError, Global};
 
+// Its room stands in the clauses, and not in its type: how much there is, its maker says as the program runs.
 #[derive(Drop)]
 pub struct Roster<T: Ord> {
     items: Vec<T>,
 }
 
 // Where x belongs: before the first that it is less than, so that equals stay in the order in which they came.
+// Looked for from the front: the answer is promised of any items, in order or not.
 fn place<T: Ord>(items: &[T], x: &T) -> usize
     ensures within { result ≤ length items.now }
-    ensures value { (o : IsTotalOrder T.Ord.cmp) → result ≡ place_by T.Ord.cmp x.now items.now }
+    ensures value { result ≡ place_by T.Ord.cmp x.now items.now }
 {
-    for (i, y) in items.iter().enumerate() {
-        if x.cmp(y).is_lt() {
-            return i;
-        }
-    }
-    items.len()
+    items
+        .iter()
+        .position(|y| x.cmp(y).is_lt())
+        .unwrap_or(items.len())
 }
 
 impl<T: Ord + Drop> Roster<T> {
@@ -53,7 +53,7 @@ impl<T: Ord + Drop> Roster<T> {
     // Puts one more at its place. Its caller has seen to the room, so no memory is wanted.
     pub fn insert(&mut self, x: T)
         requires { vec_len self.old.items < vec_capacity self.old.items }
-        ensures items { (o : IsTotalOrder T.Ord.cmp) → self.new.items.items ≡ insert_by T.Ord.cmp x self.old.items.items }
+        ensures items { self.new.items.items ≡ insert_by T.Ord.cmp x self.old.items.items }
         ensures rising { (o : IsTotalOrder T.Ord.cmp) → rises T.Ord.cmp self.old.items.items ≡ true → rises T.Ord.cmp self.new.items.items ≡ true }
         ensures len { vec_len self.new.items ≡ vec_len self.old.items + 1 }
         ensures room { vec_capacity self.old.items ≤ vec_capacity self.new.items }

@@ -1,6 +1,5 @@
 -- Round robin's account of itself: ports in a ring, the first that waits is granted, counted upward from the one after the last granted. Assumes nothing.
 use Rattle.std.specs.Prelude.{◌≡◌, ℕ, ◌+◌, ◌^◌, ◌<◌, ◌≤◌, true, false, cond, Some, None, bit_or, bit_xor, nat_lt}
-use Rattle.tasks.specs.declared.limit.Limit.TheVariants.{Phases}
 use Rattle.bus.specs.Masks.{has}
 use Rattle.bus.specs.Turns.{Meaning, Serving}
 use Rattle.bus.specs.Means.{Means}
@@ -10,19 +9,19 @@ use Rattle.round_robin.specs.Rings.{place}
 -- still a b: 1 if the count comes to port b before port a, else 0
 abbrev pub round_meaning : RoundRobin → Meaning
 round_meaning s = record {
-  ports = s.ports;
-  limit = λ _ _. Phases 1;
+  ports = s.ports.count;
+  limit = λ _ _. Some 1;
   waits = has s.mask;
   serves = s.served;
-  still = λ a b. Phases (cond (nat_lt (place s.next b) (place s.next a)) 1 0);
+  still = λ a b. Some (cond (nat_lt (place s.next b) (place s.next a)) 1 0);
 }
 
 -- a port that neither waits nor is in service gets its bit
 pub record RoundJoins (s : RoundRobin) (a : ℕ) (t : RoundRobin) : Type 0 where
-  pub port : a < s.ports
+  pub port : a < s.ports.count
   pub free : has s.mask a ≡ false
   pub unserved : s.served ≡ Some a → ⊥
-  pub ports : t.ports ≡ s.ports
+  pub ports : t.ports.count ≡ s.ports.count
   pub mask : t.mask ≡ bit_or s.mask (2 ^ a)
   pub next : t.next ≡ s.next
   pub served : t.served ≡ s.served
@@ -32,7 +31,7 @@ pub record RoundGrants (s : RoundRobin) (c : ℕ) (t : RoundRobin) : Type 0 wher
   pub unserved : s.served ≡ None
   pub waited : has s.mask c ≡ true
   pub first : (p : ℕ) → has s.mask p ≡ true → place s.next c ≤ place s.next p
-  pub ports : t.ports ≡ s.ports
+  pub ports : t.ports.count ≡ s.ports.count
   pub mask : t.mask ≡ bit_xor s.mask (2 ^ c)
   pub next : t.next ≡ c + 1
   pub served : t.served ≡ Some c
@@ -40,7 +39,7 @@ pub record RoundGrants (s : RoundRobin) (c : ℕ) (t : RoundRobin) : Type 0 wher
 -- the service ends, and all else stays
 pub record RoundEnds (s : RoundRobin) (t : RoundRobin) : Type 0 where
   pub was : Serving (round_meaning s)
-  pub ports : t.ports ≡ s.ports
+  pub ports : t.ports.count ≡ s.ports.count
   pub mask : t.mask ≡ s.mask
   pub next : t.next ≡ s.next
   pub served : t.served ≡ None
@@ -51,7 +50,7 @@ round_means = record { meaning = round_meaning; stands = λ _. Unit {0}; joins =
 
 -- a round robin of n ports before any grant, in which nobody waits and nobody is in service
 pub record Fresh (n : ℕ) (s : RoundRobin) : Type 0 where
-  pub ports : s.ports ≡ n
+  pub ports : s.ports.count ≡ n
   pub mask : s.mask ≡ 0
   pub next : s.next ≡ 0
   pub served : s.served ≡ None

@@ -1,11 +1,10 @@
 -- Lemmas on places in the ring, and that the first set digit of the rotated mask is the first port in the count. Assumes nothing.
-use Rattle.std.specs.Prelude.{◌≡◌, ℕ, ◌+◌, ◌-◌, ◌%◌, ◌^◌, ◌<◌, ◌≤◌, true, cond, ◌≢◌, nat_lt, refl}
-use Rattle.std.proofs.Common.{sym, ap, ◌∙◌, inl, inr, arith}
-use Rattle.std.specs.Int.Count.{count_trailing_zeros}
-use Rattle.std.proofs.lemmas.Bool.{cases_eq, cases_lt, cond-true, cond-false, lt-ltb, le-ltb}
+use Rattle.std.specs.Prelude.{◌≡◌, ℕ, ◌+◌, ◌-◌, ◌%◌, ◌^◌, ◌<◌, ◌≤◌, true, cond, ◌==◌, ◌≢◌, nat_lt, refl}
+use Rattle.std.proofs.Common.{sym, ap, ◌∙◌, arith}
+use Rattle.std.specs.Int.{bit_at}
 use Rattle.std.proofs.lemmas.Bool.Decides.{nat_tests}
-use Rattle.bus.specs.Masks.{digit, has}
-use Rattle.bus.proofs.Masks.{has_one, one_has, has_zero, has_below, has_none, has_some, trailing_digit, trailing_below, trailing_lt, rotated, digit_rotated, rotated_lt}
+use Rattle.bus.specs.Masks.{has}
+use Rattle.bus.proofs.Masks.{has_not, one_has, has_one, has_below, Lowest, lowest, lowest_in, rotated, bit_at_rotated, rotated_lt}
 use Rattle.round_robin.specs.Rings.{place}
 
 -- 1 if the count from s comes to b before a, else 0
@@ -25,45 +24,30 @@ pub turns_kept : (s a b c : ℕ) → s ≤ 16 → a < 16 → c < 16 → (a ≢ c
 turns_kept s a b c hs ha hc ne first = grind (arith, nat_tests)
 
 place_is : (s x i : ℕ) → s ≤ 16 → i < 16 → x ≡ (s + i) % 16 → place s x ≡ s + i
-place_is s x i hs hi e = elim (cases_lt x s) [
-  | inl l ↦ cond-true (nat_lt x s) (x + 16) x (lt-ltb x s l) ∙ (let w : x + 16 ≡ s + i = omega arith in w)
-  | inr g ↦ cond-false (nat_lt x s) (x + 16) x (le-ltb x s g) ∙ (let w : x ≡ s + i = omega arith in w)
-]
+place_is s x i hs hi e = grind (arith, nat_tests)
 
--- the first set digit of the mask, rotated so that port s comes first, is the first port that waits as one counts upward from s
+-- the first set bit of the mask, rotated so that port s comes first, is the first port that waits as one counts upward from s
 abbrev pub chosen : ℕ → ℕ → ℕ
-chosen m s = (s + count_trailing_zeros 16 (rotated m s)) % 16
+chosen m s = (s + lowest (rotated m s)) % 16
 
-module _ (m s : ℕ) (low : m < 2 ^ 16) (some : 0 < m) (near : s ≤ 16) where
-  -- port p is digit (p + 16 - s % 16) % 16 of the rotated mask
-  seen : (p : ℕ) → has m p ≡ true → digit (rotated m s) ((p + 16 - s % 16) % 16) ≡ 1
+module _ (m s : ℕ) (low : m < 2 ^ 16) (some : (p : ℕ) × (has m p ≡ true)) (near : s ≤ 16) where
+  -- port p is bit (p + 16 - s % 16) % 16 of the rotated mask
+  seen : (p : ℕ) → has m p ≡ true → has (rotated m s) ((p + 16 - s % 16) % 16) ≡ true
   seen p h =
       let l : p < 16 = has_below m p 16 low h in
       let b : (s + (p + 16 - s % 16) % 16) % 16 ≡ p = omega arith in
-      digit_rotated m s ((p + 16 - s % 16) % 16) low (omega arith) ∙ ap (digit m) b ∙ has_one m p h
+      one_has (rotated m s) _ (bit_at_rotated m s ((p + 16 - s % 16) % 16) low (omega arith) ∙ ap (bit_at m) b ∙ has_one m p h)
 
-  turned_some : 0 < rotated m s
-  turned_some =
-      let w = has_some m some low in
-      let o = seen w.0 w.1 in
-      elim (cases_eq (rotated m s) 0) [
-        | inl z ↦ absurd (let d = ap (λ x. digit x ((w.0 + 16 - s % 16) % 16)) z in let q = has_zero 0 ((w.0 + 16 - s % 16) % 16) (has_none ((w.0 + 16 - s % 16) % 16)) in omega (arith, o, d, q))
-        | inr n ↦ omega (arith, n)
-      ]
-
-  count_lt : count_trailing_zeros 16 (rotated m s) < 16
-  count_lt = trailing_lt 16 (rotated m s) turned_some (rotated_lt m s low)
+  first_seen : Lowest (rotated m s) (lowest (rotated m s))
+  first_seen = lowest_in (rotated m s) (λ z. has_not (rotated m s) _ z (seen some.0 some.1)) (rotated_lt m s low)
 
   pub chosen_waits : has m (chosen m s) ≡ true
-  chosen_waits = one_has m (chosen m s) (sym (digit_rotated m s (count_trailing_zeros 16 (rotated m s)) low count_lt) ∙ trailing_digit 16 (rotated m s) count_lt)
+  chosen_waits = ap (λ x. x == 1) (sym (bit_at_rotated m s (lowest (rotated m s)) low first_seen.within)) ∙ first_seen.waits
 
   pub chosen_first : (p : ℕ) → has m p ≡ true → place s (chosen m s) ≤ place s p
   chosen_first p h =
       let i : ℕ = (p + 16 - s % 16) % 16 in
-      let t : ℕ = count_trailing_zeros 16 (rotated m s) in
       let l : p < 16 = has_below m p 16 low h in
       let b : p ≡ (s + i) % 16 = omega arith in
       let li : i < 16 = omega arith in
-      let o = seen p h in
-      let late : t ≤ i = elim (cases_lt i t) [ inl e ↦ absurd (let z = trailing_below 16 (rotated m s) i e in omega (arith, o, z)) | inr g ↦ g ] in
-      omega (arith, place_is s (chosen m s) t near count_lt refl, place_is s p i near li b, late)
+      omega (arith, place_is s (chosen m s) (lowest (rotated m s)) near first_seen.within refl, place_is s p i near li b, first_seen.first i (seen p h))

@@ -1,25 +1,23 @@
 // Round robin's calls.
-ghost use Rattle.std.specs.Prelude.{◌≡◌, ◌<◌, ◌⊎◌, MatchResult};
-ghost use Rattle.tasks.specs.Refusals.{told, refusal};
+ghost use Rattle.std.specs.Prelude.{◌≡◌, MatchResult};
+ghost use Rattle.bus.specs.Means.{PortsRefused};
 ghost use Rattle.round_robin.specs.Account.{round_means, Fresh};
 ghost use Rattle.round_robin.specs.Laws.{round_laws};
 
 use crate::RoundRobin;
-use bus::arbiter::{Arbiter, MOST_PORTS};
-use bus::service::is_served;
+use bus::arbiter::Arbiter;
+use bus::ports::Ports;
+use bus::service::{check_free, end_service, is_served};
 use tasks::limit::Limit;
 use tasks::refusal::Refusal;
 
 impl RoundRobin {
     // An idle round robin before any grant. Refused: 6, the ports are not 1 to 16.
     pub fn new(ports: u8) -> Result<RoundRobin, Refusal>
-        ensures { MatchResult result (λ ring. Fresh ports ring) (λ e. (told e ≡ refusal 6) × ((ports < 1) ⊎ (16 < ports))) }
+        ensures { MatchResult result (λ ring. Fresh ports ring) (λ e. PortsRefused ports e) }
     {
-        if ports < 1 || ports > MOST_PORTS {
-            return Err(Refusal::Core);
-        }
         Ok(RoundRobin {
-            ports,
+            ports: Ports::new(ports)?,
             mask: 0,
             next: 0,
             served: None,
@@ -27,20 +25,19 @@ impl RoundRobin {
     }
 }
 
+#[tactic(auto, using(crate::proofs::Steps::ring_steps))]
 impl Arbiter for RoundRobin {
     ghost means = { round_means };
 
     ghost lawful = { round_laws };
 
     fn ports(&self) -> u8 {
-        self.ports
+        self.ports.count()
     }
 
     fn limit(&self, a: u8, b: u8) -> Result<Limit, Refusal> {
-        if a >= self.ports || b >= self.ports || a == b {
-            return Err(Refusal::Core);
-        }
-        Ok(Limit::Phases(1))
+        self.ports.check_pair(a, b)?;
+        Ok(Some(1))
     }
 
     fn idle(&self) -> bool {
@@ -48,9 +45,7 @@ impl Arbiter for RoundRobin {
     }
 
     fn join(&mut self, a: u8) -> Result<(), Refusal> {
-        if a >= self.ports {
-            return Err(Refusal::Core);
-        }
+        self.ports.check(a)?;
         let flag = 1u16 << a;
         if is_served(self.served, a) || self.mask & flag != 0 {
             return Err(Refusal::Twice);
@@ -63,9 +58,7 @@ impl Arbiter for RoundRobin {
         if self.mask == 0 {
             return Err(Refusal::NoneWaits);
         }
-        if self.served.is_some() {
-            return Err(Refusal::Busy);
-        }
+        check_free(self.served)?;
         let start = u32::from(self.next);
         let ahead = self.mask.rotate_right(start).trailing_zeros();
         let c = ((start + ahead) % u16::BITS) as u8;
@@ -76,10 +69,6 @@ impl Arbiter for RoundRobin {
     }
 
     fn done(&mut self) -> Result<(), Refusal> {
-        if self.served.is_none() {
-            return Err(Refusal::Idle);
-        }
-        self.served = None;
-        Ok(())
+        end_service(&mut self.served)
     }
 }

@@ -80,7 +80,7 @@ added_apart cores rows row all ok u v h =
       | inl old ↦ rw (get_or_append_left rows (row ∷ []) no_row u first) (rw (get_or_append_left rows (row ∷ []) no_row v old) (all u v (h.0, old)))
       | inr new ↦ (let is : length rows ≡ v = omega (arith, length_push rows row, h.1) in
           rw (get_or_append_left rows (row ∷ []) no_row u first) (rw (get_or_push rows row no_row v is)
-          (apart_after (get_or rows u no_row) row (clash_absent rows row ok.alone u first) (place_absent rows 0 row.id ok.absent u first))))
+          (apart_after (get_or rows u no_row) row (clash_absent rows row ok.alone u first) (place_absent rows row.id ok.absent u first))))
     ]
 
 -- the rows after a removal at i are those before it and, one place up, those after it

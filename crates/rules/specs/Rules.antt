@@ -1,18 +1,15 @@
 -- When an edit of a plan is accepted, read on the plan's cores and rows and the arguments of the call, and the rows after it. Assumes nothing.
-use Rattle.std.specs.Prelude.{◌≡◌, ℕ, ◌+◌, ◌<◌, Bool, true, false, cond, not, ◌&&◌, ◌||◌, List, [], ◌∷◌, ◌++◌, length, is_some, Some, None, Ok, Err, Option, Result, ◌==◌, nat_le, nat_lt, slice_index_or, slice_set}
-use Rattle.std.specs.List.{remove}
+use Rattle.std.specs.Prelude.{◌≡◌, ℕ, ◌<◌, Bool, true, cond, not, ◌&&◌, List, [], ◌∷◌, ◌++◌, length, is_some, Some, None, Ok, Err, Option, Result, ◌==◌, nat_le, nat_lt, slice_index_or, slice_set}
+use Rattle.std.specs.List.{remove, position, list_any}
+use Rattle.tasks.specs.declared.refusal.Refusal.{Refusal}
 use Rattle.tasks.specs.declared.task.Row.{Row}
 use Rattle.tasks.specs.Platforms.{line_verdict, cores_verdict}
 use Rattle.tasks.specs.Refusals.{Told, refusal}
 use Rattle.tasks.specs.Rows.{no_row, row_verdict, bounded}
 
--- the place of the first row with this id, in rows that begin at place i
-abbrev pub place_from : ℕ → ℕ → List Row → Option ℕ
-place_from i id [] = None
-place_from i id (row ∷ rows) = cond (row.id == id) (Some i) (place_from (i + 1) id rows)
-
+-- the place of the row with this id
 abbrev pub place_of : ℕ → List Row → Option ℕ
-place_of id rows = place_from 0 id rows
+place_of id rows = position (λ row. row.id == id) rows
 
 -- a task with this id is in the plan
 abbrev pub known : ℕ → List Row → Bool
@@ -23,8 +20,7 @@ abbrev pub clash : Row → Row → Bool
 clash new old = old.core == new.core && old.rank == new.rank && not (old.id == new.id)
 
 abbrev pub clashes : Row → List Row → Bool
-clashes new [] = false
-clashes new (row ∷ rows) = clash new row || clashes new rows
+clashes new rows = list_any (clash new) rows
 
 -- the plain numbers that open is given
 abbrev pub open_verdict : ℕ → ℕ → List ℕ → Result (Unit {0}) Told
@@ -72,6 +68,11 @@ replaced_at rows row (Some i) = slice_set rows i row
 
 abbrev pub replaced : List Row → Row → List Row
 replaced rows row = replaced_at rows row (place_of row.id rows)
+
+-- an accepted edit puts new rows in place of the old; a refused one changes nothing
+abbrev pub after : {X : Type 0} → Result X Refusal → List Row → List Row → List Row
+after (Ok x) old new = new
+after (Err e) old new = old
 
 -- a row that holds a task of one of the cores
 abbrev pub is_task_of : ℕ → Row → Bool

@@ -7,10 +7,10 @@ use crate::lookup::{has_clash, place_of};
 use tasks::refusal::Refusal;
 use tasks::task::{Row, Task};
 
-// The most tasks of a plan.
+// The most tasks of a plan. Calls that are given rows ask for no more of them; they take any rows, and not only those of a table.
 pub const MOST_TASKS: usize = 64;
 
-// Whether the row may be added: 6, 7, 9, 10, 11, 12.
+// Whether the row may be added: 6, 7, 9, 10, 11, 12. Any rows are judged, also those that no table holds.
 pub fn judge_add(cores: u8, rows: &[Row], row: Row) -> Result<(), Refusal>
     ensures { answer result ≡ add_verdict cores rows.now row }
 {
@@ -26,7 +26,7 @@ pub fn judge_add(cores: u8, rows: &[Row], row: Row) -> Result<(), Refusal>
     if has_clash(rows, row) {
         return Err(Refusal::Rank);
     }
-    Task::new(row)?;
+    Task::try_from(row)?;
     Ok(())
 }
 
@@ -43,6 +43,6 @@ pub fn judge_change(cores: u8, rows: &[Row], row: Row) -> Result<usize, Refusal>
     if has_clash(rows, row) {
         return Err(Refusal::Rank);
     }
-    Task::new(row)?;
+    Task::try_from(row)?;
     Ok(i)
 }

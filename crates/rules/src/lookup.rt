@@ -8,22 +8,12 @@ use tasks::task::Row;
 pub fn place_of(rows: &[Row], id: u16) -> Option<usize>
     ensures { result ≡ place_of id rows.now }
 {
-    for (i, row) in rows.iter().enumerate() {
-        if row.id == id {
-            return Some(i);
-        }
-    }
-    None
+    rows.iter().position(|row| row.id == id)
 }
 
 // Another task of the row's core has its rank.
 pub fn has_clash(rows: &[Row], new: Row) -> bool
     ensures { result ≡ clashes new rows.now }
 {
-    for row in rows {
-        if row.core == new.core && row.rank == new.rank && row.id != new.id {
-            return true;
-        }
-    }
-    false
+    rows.iter().any(|row| row.core == new.core && row.rank == new.rank && row.id != new.id)
 }

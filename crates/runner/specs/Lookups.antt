@@ -7,6 +7,7 @@ use Rattle.argument.specs.Plans.{plan_of}
 use Rattle.bridge.specs.Scripts.{Script, LawfulRow}
 use Rattle.runs.specs.declared.rows.Job.{Job}
 use Rattle.runs.specs.declared.rows.ScriptRow.{ScriptRow}
+use Rattle.runs.specs.Rows.{job_on}
 use Rattle.runs.specs.Shown.{no_job, script_of}
 
 abbrev pub no_script : ScriptRow
@@ -16,10 +17,6 @@ no_script = record { id = 0; release = 0; a = 0; e = 0; r = 0 }
 abbrev pub placed : ℕ → Option ℕ → ℕ
 placed past None = past
 placed past (Some place) = place
-
--- the job of a script row whose task is at a place
-abbrev pub job_on : ℕ → Row → ScriptRow → Job
-job_on place task row = record { task = place; id = task.id; core = task.core; rank = task.rank; release = row.release; a = row.a; e = row.e; r = row.r }
 
 abbrev pub task_of : List Row → ScriptRow → ℕ
 task_of rows row = placed (length rows) (place_of row.id rows)
@@ -60,3 +57,10 @@ pub record Apart (earlier : Job) (task spacing release : ℕ) : Type 0 where
 
 abbrev pub AllApart : List Job → ℕ → ℕ → ℕ → Type 0
 AllApart jobs task spacing release = (j : ℕ) → j < length jobs → Apart (slice_index_or jobs j no_job) task spacing release
+
+-- a row is admitted after the jobs before it: its task is at a place, and it is one of the first 1,024
+pub record Admitted (rows : List Row) (row : ScriptRow) (earlier : List Job) (place : ℕ) : Type 0 where
+  pub few : length earlier < 1024
+  pub known : place_of row.id rows ≡ Some place
+  pub possible : Possible (slice_index_or rows place no_row) row
+  pub apart : AllApart earlier place (slice_index_or rows place no_row).spacing row.release

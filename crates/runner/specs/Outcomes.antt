@@ -7,15 +7,10 @@ use Rattle.argument.specs.Plans.{plan_of}
 use Rattle.bus.specs.Turns.{Idle, Busy}
 use Rattle.bus.specs.Means.{Means}
 use Rattle.bridge.specs.Scripts.{LawfulScript}
-use Rattle.runs.specs.declared.rows.Job.{Job}
 use Rattle.runs.specs.declared.rows.LogRow.{LogRow}
 use Rattle.runs.specs.declared.rows.ScriptRow.{ScriptRow}
 use Rattle.runs.specs.Shown.{Ran}
 use Rattle.runner.specs.Lookups.{script_for, FirstFault}
-
--- a log row before the run
-abbrev pub opened : Job → LogRow
-opened job = record { id = job.id; release = job.release; start = 0; a_granted = 0; a_end = 0; e_end = 0; r_granted = 0; end = 0 }
 
 module _ {X : Type 0} (means : Means X) (rows : List Row) (cores : ℕ) (script : List ScriptRow) (x : X) where
   -- the arbiter is idle, and has a port for each core

@@ -2,5 +2,4 @@
 #![tactic(auto)]
 
 pub mod lookup;
-pub mod open;
 pub mod work;

@@ -1,91 +1,79 @@
 // A script by ids, looked up in the rows of a plan.
-ghost use Rattle.std.specs.Prelude.{◌≡◌, ℕ, ◌<◌, ◌≤◌, true, false, length, Some, None, vec_capacity};
+ghost use Rattle.std.specs.Prelude.{◌≡◌, ℕ, ◌≤◌, [], ◌∷◌, true, false, length, IfSome, IfNone, OnOk, IfErr, slice_index_or};
+ghost use Rattle.tasks.specs.Rows.{no_row};
+ghost use Rattle.tasks.specs.Refusals.{told, numbered};
 ghost use Rattle.argument.specs.Plans.{plan_of};
 ghost use Rattle.bridge.specs.Scripts.{LawfulScript};
-ghost use Rattle.runner.specs.Lookups.{jobs_for, script_for, job_on, FirstFault, Possible, Apart, AllApart};
+ghost use Rattle.runs.specs.Rows.{job_on};
+ghost use Rattle.runner.specs.Lookups.{jobs_for, script_for, FirstFault, Possible, Apart, AllApart, Admitted};
 
 use rules::lookup::place_of;
+use runs::progress::{MOST_JOBS, Progress};
 use runs::rows::{Job, ScriptRow};
+use tasks::refusal::Refusal;
 use tasks::task::Row;
+
+// The last moment at which a job may be released.
+const LAST_RELEASE: u64 = 1 << 40;
 
 fn is_possible(task: &Row, row: &ScriptRow) -> bool
     ensures yes { result ≡ true → Possible task.now row.now }
     ensures no { result ≡ false → Possible task.now row.now → ⊥ }
 {
-    if row.release > 0x100_0000_0000 {
-        return false;
-    }
-    if row.a < 1 || row.a > task.a {
-        return false;
-    }
-    if row.e < 1 || row.e > task.e {
-        return false;
-    }
-    1 <= row.r && row.r <= task.r
+    row.release <= LAST_RELEASE
+        && 1 <= row.a
+        && row.a <= task.a
+        && 1 <= row.e
+        && row.e <= task.e
+        && 1 <= row.r
+        && row.r <= task.r
 }
 
 fn is_apart(earlier: &Job, task: usize, spacing: u32, release: u64) -> bool
     ensures yes { result ≡ true → Apart earlier.now task spacing release }
     ensures no { result ≡ false → Apart earlier.now task spacing release → ⊥ }
 {
-    if earlier.release > release {
-        return false;
-    }
-    earlier.task != task || release - earlier.release >= u64::from(spacing)
+    earlier.release <= release
+        && (earlier.task != task || release - earlier.release >= u64::from(spacing))
 }
 
 fn are_apart(jobs: &[Job], task: usize, spacing: u32, release: u64) -> bool
     ensures yes { result ≡ true → AllApart jobs.now task spacing release }
     ensures no { result ≡ false → AllApart jobs.now task spacing release → ⊥ }
 {
-    for j in 0..jobs.len() {
-        if !is_apart(&jobs[j], task, spacing, release) {
-            return false;
-        }
-    }
-    true
+    jobs.iter()
+        .all(|earlier| is_apart(earlier, task, spacing, release))
 }
 
-fn job_on(task: usize, of: &Row, row: &ScriptRow) -> Job
-    ensures { result ≡ job_on task of.now row.now }
+// The job of a script's row, if the row is admitted after the jobs before it.
+fn admit(rows: &[Row], row: &ScriptRow, earlier: &[Job]) -> Option<Job>
+    requires { length rows.now ≤ 64 }
+    ensures some { IfSome result (λ job. (place : ℕ) × Admitted rows.now row.now earlier.now place × (job ≡ job_on place (slice_index_or rows.now place no_row) row.now)) }
+    ensures none { IfNone result ((place : ℕ) → Admitted rows.now row.now earlier.now place → ⊥) }
 {
-    Job {
-        task,
-        id: of.id,
-        core: of.core,
-        rank: of.rank,
-        release: row.release,
-        a: u64::from(row.a),
-        e: u64::from(row.e),
-        r: u64::from(row.r),
+    let place = place_of(rows, row.id)?;
+    let task = &rows[place];
+    if earlier.len() < MOST_JOBS
+        && is_possible(task, row)
+        && are_apart(earlier, place, task.spacing, row.release)
+    {
+        Some(Job::new(place, task, row))
+    } else {
+        None
     }
 }
 
-// Looks every row up, in order, into memory that is given, and answers the first faulty row, if there is one.
-pub fn look_up(rows: &[Row], script: &[ScriptRow], jobs: &mut Vec<Job>) -> Option<usize>
-    requires few { length rows.now ≤ 64 }
-    requires room { 1024 ≤ vec_capacity jobs.old }
-    ensures found { result ≡ None → (jobs.new.items ≡ jobs_for rows.now script.now) × (length script.now ≤ 1024) × LawfulScript (plan_of 0 rows.now) (script_for rows.now script.now) }
-    ensures fault { (k : ℕ) → result ≡ Some k → FirstFault rows.now script.now k }
-    ensures room { vec_capacity jobs.new ≡ vec_capacity jobs.old }
+// Looks every row up, in order.
+// Refused: 19, the first faulty row.
+pub fn look_up(rows: &[Row], script: &[ScriptRow], progress: &mut Progress) -> Result<(), Refusal>
+    requires { length rows.now ≤ 64 }
+    ensures found { OnOk result ((progress.new.jobs.items ≡ jobs_for rows.now script.now) × (length script.now ≤ 1024) × LawfulScript (plan_of 0 rows.now) (script_for rows.now script.now)) }
+    ensures fault { IfErr result (λ e. (k : ℕ) × (told e ≡ numbered 19 (k ∷ [])) × FirstFault rows.now script.now k) }
 {
-    jobs.clear();
-    for k in 0..script.len() {
-        if k >= 1024 {
-            return Some(k);
-        }
-        let row = script[k];
-        let Some(task) = place_of(rows, row.id) else {
-            return Some(k);
-        };
-        let of = rows[task];
-        if !is_possible(&of, &row) {
-            return Some(k);
-        }
-        if !are_apart(jobs.as_slice(), task, of.spacing, row.release) {
-            return Some(k);
-        }
-        jobs.push_reserved(job_on(task, &of, &row));
+    progress.clear();
+    for (k, row) in script.iter().enumerate() {
+        let job = admit(rows, row, progress.jobs()).ok_or(Refusal::Script(k))?;
+        progress.add(job);
     }
-    None
+    Ok(())
 }

@@ -1,6 +1,7 @@
 -- Step 3 at one core, and its loop.
-use Rattle.std.proofs.Common.{◌≡◌, ℕ, ◌+◌, ◌<◌, ◌≤◌, Bool, true, false, cond, ◌&&◌, eqb, ◌⊎◌, List, ◌∷◌, length, get_or, set, Some, None, sym, refl, ap, ◌∙◌, subst, inl, inr, add-one, arith, length-set}
+use Rattle.std.proofs.Common.{◌≡◌, ℕ, ◌+◌, ◌<◌, ◌≤◌, Bool, true, false, cond, ◌&&◌, eqb, ◌⊎◌, List, ◌∷◌, ◌++◌, length, get_or, set, take, Some, None, sym, refl, ap, ◌∙◌, subst, inl, inr, add-one, arith, length-set}
 use Rattle.std.proofs.lemmas.Bool.{both_ways, eq-eqb, ne_eqb, cond-true, cond-false, and_left}
+use Rattle.std.proofs.lemmas.List.{set-get_or, take_at}
 use Rattle.tasks.specs.declared.refusal.Refusal.{Refusal}
 use Rattle.argument.specs.Plans.{Plan}
 use Rattle.bus.specs.Means.{Means, Laws, JoinRefused}
@@ -22,10 +23,10 @@ use Rattle.runs.specs.Machine as Machine
 use Rattle.runs.specs.Machine.{job, number, none, leaves, onward, Inside, free, served}
 use Rattle.runs.specs.Pool.{Pool}
 use Rattle.runs.specs.Shown.{Shows, At, AllInside, script_of, shown, no_job, Reached, acting}
-use Rattle.runs.proofs.Going.{at_ok, at_stands, at_inv, at_on}
+use Rattle.runs.proofs.Going.{at_ok, at_stands, at_inv, at_on, at_core}
 use Rattle.runs.proofs.Showing.{shows_on, rows_same, rows_set, inside_set, inside_on}
-use Rattle.runs.proofs.Pools.{pool_on, first_is, pool_start, chosen_below, without_below}
-use Rattle.runs.specs.Pool.{chosen, without, RowsBelow}
+use Rattle.runs.proofs.Pools.{pool_on, first_is, pool_start}
+use Rattle.runs.specs.Pool.{chosen, without}
 use Rattle.runs.specs.Shown.{AllReleased}
 use Rattle.runs.specs.declared.ready.Ready as Kept
 
@@ -46,10 +47,10 @@ act_is P J S c k n e p a = ap (act_at P (script_of J) S c) e
 abbrev pub with_start : ℕ → LogRow → LogRow
 with_start t r = record { id = r.id; release = r.release; start = t; a_granted = r.a_granted; a_end = r.a_end; e_end = r.e_end; r_granted = r.r_granted; end = r.end }
 
-module _ {X : Type 0} (B : Means X) (laws : Laws B) (P : Plan) (J : List Job) (x y : X) (time : ℕ) (stages : List Stage) (marks : Pool) (log : List LogRow) (S : State)
+module _ {X : Type 0} {B : Means X} (laws : Laws B) {P : Plan} {J : List Job} {x y : X} {time : ℕ} {stages : List Stage} {marks : Pool} {log : List LogRow} {S : State}
     (h : At B P J x y time stages marks log S) (c : ℕ) (l : c < length stages) where
   inv : Inv P (script_of J) (B.meaning x).limit S (B.meaning y)
-  inv = at_inv B laws P J x y time stages marks log S h
+  inv = at_inv laws h
 
   on_reached : Reached P (script_of J) (act_at P (script_of J) S c (S.has c))
   on_reached = acting S c h.reached
@@ -59,14 +60,14 @@ module _ {X : Type 0} (B : Means X) (laws : Laws B) (P : Plan) (J : List Job) (x
 
   pub act_none : (s : Stage) → get_or stages c Idle ≡ s → Machine.executed log time s ≡ false → free s ≡ false → At B P J x y time stages marks log (act_at P (script_of J) S c (S.has c))
   act_none Idle e t f = absurd (both_ways true f refl)
-  act_none (Waiting First k) e t f = let has = sym (h.shows.has c l) ∙ ap job e in stays (act_is P J S c k 1 has (h.shows.phase c k l has ∙ ap number e) (λ u. omega arith))
-  act_none (Waiting Last k) e t f = let has = sym (h.shows.has c l) ∙ ap job e in stays (act_is P J S c k 4 has (h.shows.phase c k l has ∙ ap number e) (λ u. omega arith))
-  act_none (A k) e t f = let has = sym (h.shows.has c l) ∙ ap job e in stays (act_is P J S c k 2 has (h.shows.phase c k l has ∙ ap number e) (λ u. omega arith))
-  act_none (R k) e t f = let has = sym (h.shows.has c l) ∙ ap job e in stays (act_is P J S c k 5 has (h.shows.phase c k l has ∙ ap number e) (λ u. omega arith))
+  act_none (Waiting First k) e t f = let core = at_core laws h c l e refl in stays (act_is P J S c k 1 core.has core.in_phase (λ u. omega arith))
+  act_none (Waiting Last k) e t f = let core = at_core laws h c l e refl in stays (act_is P J S c k 4 core.has core.in_phase (λ u. omega arith))
+  act_none (A k) e t f = let core = at_core laws h c l e refl in stays (act_is P J S c k 2 core.has core.in_phase (λ u. omega arith))
+  act_none (R k) e t f = let core = at_core laws h c l e refl in stays (act_is P J S c k 5 core.has core.in_phase (λ u. omega arith))
   act_none (E k) e t f =
-      let has = sym (h.shows.has c l) ∙ ap job e in
-      stays (act_e P J S c k has (h.shows.phase c k l has ∙ ap number e) ∙ cond-false (eqb (S.cell k).e_end S.now) (join_r S c k) S
-      (sym (ap (λ (z : LogRow). eqb z.e_end S.now) (h.shows.row k (inv.cores.holds c k has).known)) ∙ ap (eqb (get_or log k none).e_end) (sym h.shows.now) ∙ t))
+      let core = at_core laws h c l e refl in
+      stays (act_e P J S c k core.has core.in_phase ∙ cond-false (eqb (S.cell k).e_end S.now) (join_r S c k) S
+      (sym (ap (λ (z : LogRow). eqb z.e_end S.now) core.row) ∙ ap (eqb (get_or log k none).e_end) (sym h.shows.now) ∙ t))
 
   idle_has : (s : Stage) → get_or stages c Idle ≡ s → free s ≡ true → S.has c ≡ None
   idle_has Idle e f = sym (h.shows.has c l) ∙ ap job e
@@ -84,11 +85,11 @@ module _ {X : Type 0} (B : Means X) (laws : Laws B) (P : Plan) (J : List Job) (x
   -- the arbiter refuses no join
   pub act_sure : (s : Stage) → get_or stages c Idle ≡ s → ((Machine.executed log time s ≡ true) ⊎ (free s ≡ true)) → (e : Refusal) → JoinRefused (B.meaning y) c e → ⊥
   act_sure s e d r q =
-      let w = may_join P (script_of J) h.sound (at_ok B laws P J x y time stages marks log S h) (B.meaning x).limit S (B.meaning y) inv c (λ k has. go s e d k has) in
+      let w = may_join P (script_of J) h.sound (at_ok laws h) (B.meaning x).limit S (B.meaning y) inv c (λ k has. go s e d k has) in
       join_sure (B.meaning y) c r q port w.0 w.1
     where
       go : (s : Stage) → get_or stages c Idle ≡ s → ((Machine.executed log time s ≡ true) ⊎ (free s ≡ true)) → (k : ℕ) → S.has c ≡ Some k → phase (S.cell k) ≡ 3
-      go Idle e d k has = (let u = sym (h.shows.has c l) ∙ ap job e in let z : ◌≡◌ {A = ℕ} 0 1 = cc in absurd (omega arith))
+      go Idle e d k has = (let u = sym (h.shows.has c l) ∙ ap job e in absurd (cc))
       go (Waiting t j) e d k has = elim d [ inl u ↦ absurd (both_ways false refl u) | inr u ↦ absurd (both_ways false refl u) ]
       go (A j) e d k has = elim d [ inl u ↦ absurd (both_ways false refl u) | inr u ↦ absurd (both_ways false refl u) ]
       go (R j) e d k has = elim d [ inl u ↦ absurd (both_ways false refl u) | inr u ↦ absurd (both_ways false refl u) ]
@@ -102,18 +103,14 @@ module _ {X : Type 0} (B : Means X) (laws : Laws B) (P : Plan) (J : List Job) (x
   act_executed (A k) e t y' q = absurd (both_ways false refl t)
   act_executed (R k) e t y' q = absurd (both_ways false refl t)
   act_executed (E k) e t y' q =
-      let has = sym (h.shows.has c l) ∙ ap job e in
-      let p = h.shows.phase c k l has ∙ ap number e in
-      let o = inv.cores.holds c k has in
-      let is : act_at P (script_of J) S c (S.has c) ≡ join_r S c k = act_e P J S c k has p ∙ cond-true (eqb (S.cell k).e_end S.now) (join_r S c k) S
-      (sym (ap (λ (z : LogRow). eqb z.e_end S.now) (h.shows.row k o.known)) ∙ ap (eqb (get_or log k none).e_end) (sym h.shows.now) ∙ t) in
-      at_on B laws P J x y time stages marks log S h y' time (set stages c (Waiting Last k)) marks log (act_at P (script_of J) S c (S.has c)) (length-set stages c (Waiting Last k)) on_reached
-      (subst (λ (T : State). Course B x T.events y') (sym is) (Course.join h.course q))
-      (subst (Shows P J time (set stages c (Waiting Last k)) marks log) (sym is)
-      (shows_on P J time stages marks log S h.shows inv.cores c k (Waiting Last k) (executed (S.cell k)) S.has (joins c ∷ S.events) marks log l o.same (sym has) (λ d ne. refl)
-      (λ j u. (let z : j ≡ k = cc in z, refl))
-      (rows_same P J time stages marks log S h.shows inv.cores k (executed (S.cell k)) refl)
-      (pool_on P (script_of J) marks S h.shows.pooled k (executed (S.cell k)) (omega arith) (omega arith))))
+      let core = at_core laws h c l e refl in
+      let is : act_at P (script_of J) S c (S.has c) ≡ join_r S c k = act_e P J S c k core.has core.in_phase ∙ cond-true (eqb (S.cell k).e_end S.now) (join_r S c k) S
+      (sym (ap (λ (z : LogRow). eqb z.e_end S.now) core.row) ∙ ap (eqb (get_or log k none).e_end) (sym h.shows.now) ∙ t) in
+      at_on laws h (length-set stages c (Waiting Last k)) on_reached (subst (λ (T : State). Course B x T.events y') (sym is) (Course.join h.course q)) (subst (Shows P J time (set stages c (Waiting Last k)) marks log) (sym is)
+      (shows_on h.shows inv.cores c k (Waiting Last k) (executed (S.cell k)) S.has (joins c ∷ S.events) marks log l core.same (sym core.has) (λ d ne. refl)
+      (λ j u. (cc, refl))
+      (rows_same h.shows inv.cores k (executed (S.cell k)) refl)
+      (pool_on h.shows.pooled k (executed (S.cell k)) (omega arith) (omega arith))))
 
   chosen_one : (k : ℕ) → first P (script_of J) S c (length J) ≡ Some k → (k < length J) × Ready P (script_of J) S c k
   chosen_one k e = let w = subst (FirstOf P (script_of J) S c (length J)) e (first_of P (script_of J) S c (length J)) in (w.0, ready_parts P (script_of J) S c k w.1)
@@ -128,98 +125,83 @@ module _ {X : Type 0} (B : Means X) (laws : Laws B) (P : Plan) (J : List Job) (x
   act_start (R j) e f k n a b y' q = absurd (both_ways false refl f)
   act_start Idle e f k n a b y' q =
       let has = idle_has Idle e f in
-      let ok = at_ok B laws P J x y time stages marks log S h in
-      let m = first_is P (script_of J) h.sound ok marks S h.shows.pooled a c (Some k) n in
+      let ok = at_ok laws h in
+      let m = first_is h.sound ok h.shows.pooled a c (Some k) n in
       let w = chosen_one k m in
       let pool' : Pool = record { ready = without c marks.ready; upto = marks.upto } in
       let is : act_at P (script_of J) S c (S.has c) ≡ join_a S c k = ap (act_at P (script_of J) S c) has ∙ ap (begin_at S c) m in
-      at_on B laws P J x y time stages marks log S h y' time (set stages c (Waiting First k)) pool' (set log k (with_start time (get_or log k none))) (act_at P (script_of J) S c (S.has c)) (length-set stages c (Waiting First k)) on_reached
-      (subst (λ (T : State). Course B x T.events y') (sym is) (Course.join h.course q))
-      (subst (Shows P J time (set stages c (Waiting First k)) pool' (set log k (with_start time (get_or log k none)))) (sym is)
-      (shows_on P J time stages marks log S h.shows inv.cores c k (Waiting First k) (started S.now (S.cell k)) (put S.has c (Some k)) (joins c ∷ S.events) pool' (set log k (with_start time (get_or log k none))) l
+      at_on laws h (length-set stages c (Waiting First k)) on_reached (subst (λ (T : State). Course B x T.events y') (sym is) (Course.join h.course q)) (subst (Shows P J time (set stages c (Waiting First k)) pool' (set log k (with_start time (get_or log k none)))) (sym is)
+      (shows_on h.shows inv.cores c k (Waiting First k) (started S.now (S.cell k)) (put S.has c (Some k)) (joins c ∷ S.events) pool' (set log k (with_start time (get_or log k none))) l
       w.1.same (sym (put_at S.has c (Some k))) (λ d ne. put_off S.has c (Some k) d ne)
       (λ j u. (let v = put_at S.has c (Some k) in let z : j ≡ k = cc in z, refl))
-      (rows_set P J time stages marks log S h.shows inv.cores k (started S.now (S.cell k)) (with_start time (get_or log k none)) b (ap (with_start time) (h.shows.row k w.0) ∙ ap (λ t. with_start t (shown P (job_of (script_of J) k (S.cell k)))) h.shows.now))
-      (pool_start P (script_of J) h.sound ok marks S h.shows.pooled a c k (started S.now (S.cell k)) n (omega arith))))
+      (rows_set h.shows inv.cores k (started S.now (S.cell k)) (with_start time (get_or log k none)) b (ap (with_start time) (h.shows.row k w.0) ∙ ap (λ t. with_start t (shown P (job_of (script_of J) k (S.cell k)))) h.shows.now))
+      (pool_start h.sound ok h.shows.pooled a c k (started S.now (S.cell k)) n (omega arith))))
 
 -- ---- the loop
 
-module _ {X : Type 0} (B : Means X) (J : List Job) (cores time upto : ℕ) (stages₀ : List Stage) (ready₀ : List Ready') (log₀ : List LogRow) (y₀ : X) where
-  abbrev pool : List Ready' → Pool
-  pool ready = record { ready = ready; upto = upto }
+-- the ready jobs, while no more are released
+abbrev pub pool : ℕ → List Ready' → Pool
+pool upto ready = record { ready = ready; upto = upto }
 
-  -- after step 3 at the cores below c
-  pub record Acted (c : ℕ) (stages : List Stage) (ready : List Ready') (log : List LogRow) (y : X) : Type 0 where
-    pub inside : AllInside (length J) stages
-    pub below : RowsBelow (length J) ready
-    pub goes : (P : Plan) (x : X) (S : State) → At B P J x y₀ time stages₀ (pool ready₀) log₀ S → At B P J x y time stages (pool ready) log (acts P (script_of J) c S)
+-- after step 3 at the cores below c
+pub record Acted {X : Type 0} (B : Means X) (J : List Job) (time upto : ℕ) (stages₀ : List Stage) (ready₀ : List Ready') (log₀ : List LogRow) (y₀ : X)
+    (c : ℕ) (stages : List Stage) (ready : List Ready') (log : List LogRow) (y : X) : Type 0 where
+  pub inside : AllInside (length J) stages
+  pub goes : (P : Plan) (x : X) (S : State) → At B P J x y₀ time stages₀ (pool upto ready₀) log₀ S → At B P J x y time stages (pool upto ready) log (acts P (script_of J) c S)
 
-  -- i is the core's index
-  module _ (laws : Laws B) (released : AllReleased J time upto) (c : ℕ) (stages : List Stage) (ready : List Ready') (log : List LogRow) (y : X) (f : Acted c stages ready log y) (l : c < length stages) (i : ℕ) (ei : i ≡ c) where
-    at_c : (Q : Stage → Type 0) → Q (get_or stages i Idle) → Q (get_or stages c Idle)
-    at_c Q = subst (λ j. Q (get_or stages j Idle)) ei
+module _ {X : Type 0} {B : Means X} (laws : Laws B) {J : List Job} {time upto : ℕ} (released : AllReleased J time upto)
+    {stages₀ : List Stage} {ready₀ : List Ready'} {log₀ : List LogRow} {y₀ : X} {c : ℕ} {stages : List Stage} {ready : List Ready'} {log : List LogRow} {y : X}
+    (f : Acted B J time upto stages₀ ready₀ log₀ y₀ c stages ready log y) (l : c < length stages) where
+  released_at : {P : Plan} {x : X} {S : State} → At B P J x y time stages (pool upto ready) log S → (k : ℕ) → upto ≤ k → k < length J → S.now < (get_or J k no_job).release
+  released_at h k a b = omega (arith, released k a b, h.shows.now)
 
-    released_at : (P : Plan) (x : X) (S : State) → At B P J x y time stages (pool ready) log S → (k : ℕ) → upto ≤ k → k < length J → S.now < (get_or J k no_job).release
-    released_at P x S h k a b = omega (arith, released k a b, h.shows.now)
+  pub acted_executed : {stages' : List Stage} {s : Stage} {ready' : List Ready'} {log' : List LogRow} {y' y'' : X} → Machine.executed log time (get_or stages c Idle) ≡ true → s ≡ onward (get_or stages c Idle) Ended
+      → stages' ≡ set stages c s → ready' ≡ ready → log' ≡ log → y' ≡ y'' → (B.stands y → B.joins y c y'') → Acted B J time upto stages₀ ready₀ log₀ y₀ (c + 1) stages' ready' log' y'
+  acted_executed t e u a b v q = rw add-one (rw a (rw b (rw u (rw v (rw e (record {
+    inside = inside_set (length J) stages c (onward (get_or stages c Idle) Ended) f.inside (inside_on (length J) (get_or stages c Idle) (f.inside c l));
+    goes = λ P x S a. (let h = f.goes P x S a in act_executed laws h c l (get_or stages c Idle) refl t _ (q (at_stands laws h)));
+  }))))))
 
-    pub acted_executed : (stages' : List Stage) (s : Stage) (ready' : List Ready') (log' : List LogRow) (y' y'' : X) → Machine.executed log time (get_or stages i Idle) ≡ true → s ≡ onward (get_or stages i Idle) Ended
-        → stages' ≡ set stages i s → ready' ≡ ready → log' ≡ log → y' ≡ y'' → (B.stands y → B.joins y c y'') → Acted (c + 1) stages' ready' log' y'
-    acted_executed stages' s ready' log' y' y'' t e u a b v q =
-        let e' = at_c (λ r. s ≡ onward r Ended) e in
-        let u' = u ∙ ap (λ j. set stages j s) ei in
-        rw add-one (rw a (rw b (record {
-          inside = subst (AllInside (length J)) (sym u') (inside_set (length J) stages c s f.inside (subst (Inside (length J)) (sym e') (inside_on (length J) (get_or stages c Idle) (f.inside c l))));
-          below = f.below;
-          goes = λ P x S a. (
-              let h = f.goes P x S a in
-              let Q : List Stage → Type 0 = λ r. At B P J x y' time r (pool ready) log (act_at P (script_of J) (acts P (script_of J) c S) c ((acts P (script_of J) c S).has c)) in
-              subst Q (ap (set stages c) (sym e') ∙ sym u') (act_executed B laws P J x y time stages (pool ready) log (acts P (script_of J) c S) h c l (get_or stages c Idle) refl (at_c (λ r. Machine.executed log time r ≡ true) t) y' (subst (B.joins y c) (sym v) (q (at_stands B laws P J x y time stages (pool ready) log (acts P (script_of J) c S) h)))));
-        })))
+  pub acted_start : (k : ℕ) {stages' : List Stage} {s : Stage} {ready' : List Ready'} {log' : List LogRow} {y' y'' : X} → free (get_or stages c Idle) ≡ true → Some k ≡ chosen c ready → k < length J
+      → length log ≡ length J
+      → s ≡ onward (get_or stages c Idle) (Start k) → stages' ≡ set stages c s → ready' ≡ without c ready → log' ≡ set log k (with_start time (get_or log k none)) → y' ≡ y'' → (B.stands y → B.joins y c y'')
+      → Acted B J time upto stages₀ ready₀ log₀ y₀ (c + 1) stages' ready' log' y'
+  acted_start k t w kl ll e u v lg z q =
+      rw add-one (rw v (rw lg (rw u (rw z (rw e (record {
+        inside = inside_set (length J) stages c (onward (get_or stages c Idle) (Start k)) f.inside (starts kl (get_or stages c Idle) (f.inside c l));
+        goes = λ P x S a. (
+            let h = f.goes P x S a in
+            act_start laws h c l (get_or stages c Idle) refl t k (sym w) (released_at h) (omega (arith, kl, ll)) _ (q (at_stands laws h)));
+      }))))))
+    where
+      starts : {k : ℕ} → k < length J → (s : Stage) → Inside (length J) s → Inside (length J) (onward s (Start k))
+      starts kl Idle j = kl
+      starts kl (Waiting First d) j = j
+      starts kl (Waiting Last d) j = j
+      starts kl (A d) j = j
+      starts kl (E d) j = j
+      starts kl (R d) j = j
 
-    pub acted_start : (k : ℕ) (stages' : List Stage) (s : Stage) (ready' : List Ready') (log' : List LogRow) (y' y'' : X) → free (get_or stages i Idle) ≡ true → Some k ≡ chosen c ready
-        → length log ≡ length J
-        → s ≡ onward (get_or stages i Idle) (Start k) → stages' ≡ set stages i s → ready' ≡ without c ready → log' ≡ set log k (with_start time (get_or log k none)) → y' ≡ y'' → (B.stands y → B.joins y c y'')
-        → Acted (c + 1) stages' ready' log' y'
-    acted_start k stages' s ready' log' y' y'' t w ll e u v lg z q =
-        let e' = at_c (λ r. s ≡ onward r (Start k)) e in
-        let u' = u ∙ ap (λ j. set stages j s) ei in
-        let kl : k < length J = chosen_below (length J) c ready f.below k (sym w) in
-        rw add-one (rw v (rw lg (record {
-          inside = subst (AllInside (length J)) (sym u') (inside_set (length J) stages c s f.inside (subst (Inside (length J)) (sym e') (starts kl (get_or stages c Idle) (f.inside c l))));
-          below = without_below (length J) c ready f.below;
-          goes = λ P x S a. (
-              let h = f.goes P x S a in
-              let Q : List Stage → Type 0 = λ r. At B P J x y' time r (pool (without c ready)) (set log k (with_start time (get_or log k none))) (act_at P (script_of J) (acts P (script_of J) c S) c ((acts P (script_of J) c S).has c)) in
-              let n = act_start B laws P J x y time stages (pool ready) log (acts P (script_of J) c S) h c l (get_or stages c Idle) refl (at_c (λ r. free r ≡ true) t) k (sym w) (released_at P x (acts P (script_of J) c S) h) (omega (arith, kl, ll)) y' (subst (B.joins y c) (sym z) (q (at_stands B laws P J x y time stages (pool ready) log (acts P (script_of J) c S) h))) in
-              subst Q (ap (set stages c) (sym e') ∙ sym u') n);
-        })))
-      where
-        starts : k < length J → (s : Stage) → Inside (length J) s → Inside (length J) (onward s (Start k))
-        starts kl Idle j = kl
-        starts kl (Waiting First d) j = j
-        starts kl (Waiting Last d) j = j
-        starts kl (A d) j = j
-        starts kl (E d) j = j
-        starts kl (R d) j = j
-
-    pub acted_none : (stages' : List Stage) (ready' : List Ready') (log' : List LogRow) (y' : X) → Machine.executed log time (get_or stages i Idle) ≡ false
-        → ((free (get_or stages i Idle) ≡ false) ⊎ ((free (get_or stages i Idle) ≡ true) × (None ≡ chosen c ready)))
-        → stages' ≡ stages → ready' ≡ ready → log' ≡ log → y' ≡ y → Acted (c + 1) stages' ready' log' y'
-    acted_none stages' ready' log' y' t d u v lg z = rw add-one (record {
-      inside = subst (AllInside (length J)) (sym u) f.inside;
-      below = subst (RowsBelow (length J)) (sym v) f.below;
-      goes = λ P x S a. (
-          let h = f.goes P x S a in
-          let t' = at_c (λ r. Machine.executed log time r ≡ false) t in
-          rw u (rw v (rw lg (rw z (elim d [
-            | inl w ↦ act_none B laws P J x y time stages (pool ready) log (acts P (script_of J) c S) h c l (get_or stages c Idle) refl t' (at_c (λ r. free r ≡ false) w)
-            | inr w ↦ act_unready B laws P J x y time stages (pool ready) log (acts P (script_of J) c S) h c l (get_or stages c Idle) refl (at_c (λ r. free r ≡ true) w.0)
-                (first_is P (script_of J) h.sound (at_ok B laws P J x y time stages (pool ready) log (acts P (script_of J) c S) h) (pool ready) (acts P (script_of J) c S) h.shows.pooled (released_at P x (acts P (script_of J) c S) h) c None (sym w.1))
-          ])))));
-    })
-
-    pub acted_sure : (e : Refusal) → ((Machine.executed log time (get_or stages i Idle) ≡ true) ⊎ (free (get_or stages i Idle) ≡ true)) → (B.stands y → JoinRefused (B.meaning y) c e)
-        → (ready'' : List Ready') → (P : Plan) (x : X) (S : State) → At B P J x y₀ time stages₀ (pool ready₀) log₀ S → ⊥
-    acted_sure e d q _ P x S a =
+  pub acted_none : {stages' : List Stage} {ready' : List Ready'} {log' : List LogRow} {y' : X} → Machine.executed log time (get_or stages c Idle) ≡ false
+      → ((free (get_or stages c Idle) ≡ false) ⊎ ((free (get_or stages c Idle) ≡ true) × (None ≡ chosen c ready)))
+      → stages' ≡ set stages c (get_or stages c Idle) → ready' ≡ ready → log' ≡ log → y' ≡ y → Acted B J time upto stages₀ ready₀ log₀ y₀ (c + 1) stages' ready' log' y'
+  acted_none t d u v lg z = rw add-one (rw (u ∙ set-get_or stages c Idle) (rw v (rw lg (rw z (record {
+    inside = f.inside;
+    goes = λ P x S a. (
         let h = f.goes P x S a in
-        act_sure B laws P J x y time stages (pool ready) log (acts P (script_of J) c S) h c l (get_or stages c Idle) refl (at_c (λ r. (Machine.executed log time r ≡ true) ⊎ (free r ≡ true)) d) e (q (at_stands B laws P J x y time stages (pool ready) log (acts P (script_of J) c S) h))
+        elim d [
+          | inl w ↦ act_none laws h c l (get_or stages c Idle) refl t w
+          | inr w ↦ act_unready laws h c l (get_or stages c Idle) refl w.0 (first_is h.sound (at_ok laws h) h.shows.pooled (released_at h) c None (sym w.1))
+        ]);
+  })))))
+
+  pub acted_sure : (e : Refusal) → ((Machine.executed log time (get_or stages c Idle) ≡ true) ⊎ (free (get_or stages c Idle) ≡ true)) → (B.stands y → JoinRefused (B.meaning y) c e)
+      → (P : Plan) (x : X) (S : State) → At B P J x y₀ time stages₀ (pool upto ready₀) log₀ S → ⊥
+  acted_sure e d q P x S a = let h = f.goes P x S a in act_sure laws h c l (get_or stages c Idle) refl d e (q (at_stands laws h))
+
+-- after them all
+pub acted_all : {X : Type 0} {B : Means X} {J : List Job} {time upto : ℕ} {stages₀ : List Stage} {ready₀ : List Ready'} {log₀ : List LogRow} {y₀ : X} {c : ℕ} {stages : List Stage} {ready : List Ready'} {log : List LogRow} {y : X}
+    → Acted B J time upto stages₀ ready₀ log₀ y₀ c stages ready log y → (n : ℕ) (rest : List Stage) → c ≡ n → length stages ≡ n
+    → (P : Plan) (x : X) (S : State) → At B P J x y₀ time stages₀ (pool upto ready₀) log₀ S → At B P J x y time (take n (stages ++ rest)) (pool upto ready) log (acts P (script_of J) n S)
+acted_all {B = B} {J = J} {time = time} {upto = upto} {stages = stages} {ready = ready} {log = log} {y = y} f n rest e m P x S a =
+    rw (take_at stages rest n m) (subst (λ k. At B P J x y time stages (pool upto ready) log (acts P (script_of J) k S)) e (f.goes P x S a))

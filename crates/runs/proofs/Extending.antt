@@ -1,20 +1,13 @@
 -- One more choice: the run so far stays, and the next moment grants it.
-use Rattle.std.proofs.Common.{◌≡◌, ℕ, suc, List, [], ◌∷◌, ◌++◌, length, get_or, sym, refl, ap, ◌∙◌, arith}
-use Rattle.std.proofs.lemmas.List.{get_or_append_left}
+use Rattle.std.proofs.Common.{◌≡◌, ℕ, suc, List, [], ◌∷◌, ◌++◌, length, get_or, sym, refl, ap, ◌∙◌, add-one, arith}
+use Rattle.std.proofs.lemmas.List.{get_or_append_left, length_push}
+use Rattle.std.proofs.Math.Seq.{get_or-append_seam}
 use Rattle.argument.specs.Plans.{Plan}
 use Rattle.bridge.specs.Scripts.{Script}
 use Rattle.bridge.specs.States.{State}
 use Rattle.bridge.specs.Moments.{moment}
 use Rattle.bridge.specs.Runs.{tick, run, grants_of}
 use Rattle.bridge.proofs.Single.{G, Before, nobody, somebody, choice, many, agree, grants_before, grants_grant}
-
-at_end : (xs : List ℕ) (p : ℕ) → get_or (xs ++ (p ∷ [])) (length xs) 0 ≡ p
-at_end [] p = refl
-at_end (x ∷ xs) p = at_end xs p
-
-one_longer : (xs : List ℕ) (p : ℕ) → length (xs ++ (p ∷ [])) ≡ suc (length xs)
-one_longer [] p = refl
-one_longer (x ∷ xs) p = ap suc (one_longer xs p)
 
 module _ (P : Plan) (Z : Script) (cs : List ℕ) (n p : ℕ) (count : length cs ≡ many P Z cs n) where
   pub record Extended (ds : List ℕ) : Type 0 where
@@ -36,14 +29,14 @@ module _ (P : Plan) (Z : Script) (cs : List ℕ) (n p : ℕ) (count : length cs 
         let ds = cs ++ (p ∷ []) in
         let same : run P Z cs n ≡ run P Z ds n = agree P Z cs ds n (λ i l. sym (get_or_append_left cs (p ∷ []) 0 i (omega (arith, l, count)))) in
         let where_at : many P Z ds n ≡ length cs = ap (λ (T : State). length (grants_of T.events)) (sym same) ∙ sym count in
-        let port : get_or ds (many P Z ds n) 0 ≡ p = ap (λ i. get_or ds i 0) where_at ∙ at_end cs p in
+        let port : get_or ds (many P Z ds n) 0 ≡ p = ap (λ i. get_or ds i 0) where_at ∙ get_or-append_seam cs p [] 0 in
         let next : run P Z ds (suc n) ≡ tick (moment P Z p (run P Z cs n)) = ap tick (ap (λ q. moment P Z q (run P Z ds n)) port ∙ ap (moment P Z p) (sym same)) in
         let more = ap G (h p) ∙ grants_grant Z (Before P Z (run P Z cs n)) p ((Before P Z (run P Z cs n)).has p) ∙ ap (◌∷◌ p) (grants_before P Z (run P Z cs n)) in (
           ds,
           record {
             before = sym same;
             next = next;
-            counted = one_longer cs p ∙ ap suc count ∙ sym (ap (λ (T : State). length (grants_of T.events)) next ∙ ap length more);
+            counted = length_push cs p ∙ add-one (length cs) ∙ ap suc count ∙ sym (ap (λ (T : State). length (grants_of T.events)) next ∙ ap length more);
           },
         ))
   ]

@@ -8,3 +8,4 @@ pub mod Places
 pub mod Soon
 pub mod Extending
 pub mod Driving
+pub mod Stepping

@@ -32,9 +32,9 @@ unstarted_same f k x a b j = elim (cases_eq j k) [
   | inr ne ↦ ap (λ y. eqb (phase y) 0) (put_off f k x j ne)
 ]
 
-pub pool_on : (P : Plan) (Z : Script) (pool : Pool) (S : State) → Pooled P Z pool S → (k : ℕ) (x : Cell) {has : ℕ → Option ℕ} {es : List Event}
+pub pool_on : {P : Plan} {Z : Script} {pool : Pool} {S : State} → Pooled P Z pool S → (k : ℕ) (x : Cell) {has : ℕ → Option ℕ} {es : List Event}
     → 1 ≤ phase (S.cell k) → 1 ≤ phase x → Pooled P Z pool (record { now = S.now; cell = put S.cell k x; has = has; events = es })
-pool_on P Z pool S h k x a b = record {
+pool_on {pool = pool} {S = S} h k x a b = record {
   most = h.most;
   before = h.before;
   after = h.after;
@@ -102,7 +102,7 @@ module _ (P : Plan) (Z : Script) where
     pub goes : (j : ℕ) → 1 ≤ count j xs → core_at P Z j ≡ c → Ranked P Z k j
 
   pub best : (c : ℕ) (xs : List Item) → AllKeyed P Z xs → rises ready_cmp xs ≡ true → (k : ℕ) → chosen c xs ≡ Some k → Best c xs k
-  best c [] a r k e = (let z : ◌≡◌ {A = ℕ} 0 1 = cc in absurd (omega arith))
+  best c [] a r k e = absurd (cc)
   best c (x ∷ xs) a r k e =
       let p = and_parts (none_less ready_cmp x xs) (rises ready_cmp xs) r in
       elim (cases_eq x.core c) [
@@ -132,7 +132,7 @@ module _ (P : Plan) (Z : Script) where
   pub no_best : (c : ℕ) (xs : List Item) → AllKeyed P Z xs → chosen c xs ≡ None → (j : ℕ) → 1 ≤ count j xs → core_at P Z j ≡ c → ⊥
   no_best c [] a e j n d = omega arith
   no_best c (x ∷ xs) a e j n d = elim (cases_eq x.core c) [
-    | inl u ↦ (let w = rw (eq-eqb x.core c u) at e in let z : ◌≡◌ {A = ℕ} 0 1 = cc in omega arith)
+    | inl u ↦ (let w = rw (eq-eqb x.core c u) at e in cc)
     | inr u ↦ elim (split x xs j n) [
       | inl i ↦ u (a.0.core ∙ ap (core_at P Z) i ∙ d)
       | inr m ↦ no_best c xs a.1 (rw (ne_eqb x.core c u) at e) j m d
@@ -140,7 +140,7 @@ module _ (P : Plan) (Z : Script) where
   ]
 
   pub without_count : (c : ℕ) (xs : List Item) (k : ℕ) → chosen c xs ≡ Some k → (j : ℕ) → on (eqb k j) 1 + count j (without c xs) ≡ count j xs
-  without_count c [] k e j = (let z : ◌≡◌ {A = ℕ} 0 1 = cc in absurd (omega arith))
+  without_count c [] k e j = absurd (cc)
   without_count c (x ∷ xs) k e j = elim (cases_eq x.core c) [
     | inl u ↦ (
         let v : x.row ≡ k = (let w = rw (eq-eqb x.core c u) at e in cc) in
@@ -175,6 +175,10 @@ without_rises c (x ∷ xs) h =
       | inr u ↦ rw u (and_from (none_less ready_cmp x (without c xs)) (rises ready_cmp (without c xs)) (none_without c x xs p.0) (without_rises c xs p.1))
     ]
 
+pub more_below : (m n : ℕ) (xs : List Item) → m ≤ n → RowsBelow m xs → RowsBelow n xs
+more_below m n [] l h = tt
+more_below m n (x ∷ xs) l h = (omega (arith, h.0), more_below m n xs l h.1)
+
 pub without_below : (n c : ℕ) (xs : List Item) → RowsBelow n xs → RowsBelow n (without c xs)
 without_below n c [] h = tt
 without_below n c (x ∷ xs) h = elim (cases_Bool (eqb x.core c)) [
@@ -183,7 +187,7 @@ without_below n c (x ∷ xs) h = elim (cases_Bool (eqb x.core c)) [
 ]
 
 pub chosen_below : (n c : ℕ) (xs : List Item) → RowsBelow n xs → (k : ℕ) → chosen c xs ≡ Some k → k < n
-chosen_below n c [] h k e = (let z : ◌≡◌ {A = ℕ} 0 1 = cc in absurd (omega arith))
+chosen_below n c [] h k e = absurd (cc)
 chosen_below n c (x ∷ xs) h k e = elim (cases_eq x.core c) [
   | inl u ↦ (let w = rw (eq-eqb x.core c u) at e in let v : x.row ≡ k = cc in omega (arith, h.0))
   | inr u ↦ chosen_below n c xs h.1 k (rw (ne_eqb x.core c u) at e)
@@ -192,7 +196,7 @@ chosen_below n c (x ∷ xs) h k e = elim (cases_eq x.core c) [
 pub unchosen : (c : ℕ) (xs : List Item) → chosen c xs ≡ None → without c xs ≡ xs
 unchosen c [] e = refl
 unchosen c (x ∷ xs) e = elim (cases_eq x.core c) [
-  | inl u ↦ (let w = rw (eq-eqb x.core c u) at e in let z : ◌≡◌ {A = ℕ} 0 1 = cc in absurd (omega arith))
+  | inl u ↦ (let w = rw (eq-eqb x.core c u) at e in absurd (cc))
   | inr u ↦ (let h = rw (ne_eqb x.core c u) at e in rw (ne_eqb x.core c u) (ap (λ ys. x ∷ ys) (unchosen c xs h)))
 ]
 
@@ -205,7 +209,7 @@ some_on false h = absurd (omega arith)
 spacing_some : (row : Row) → bounded row ≡ true → 1 ≤ row.spacing
 spacing_some row h = grind arith
 
-module _ (P : Plan) (Z : Script) (sound : SoundPlan P) (ok : Allowed P Z) (pool : Pool) (S : State) (h : Pooled P Z pool S)
+module _ {P : Plan} {Z : Script} (sound : SoundPlan P) (ok : Allowed P Z) {pool : Pool} {S : State} (h : Pooled P Z pool S)
     (released : (k : ℕ) → pool.upto ≤ k → k < Z.size → S.now < (Z.row k).release) (c : ℕ) where
   kept_ready : (k : ℕ) → 1 ≤ count k pool.ready → core_at P Z k ≡ c → (k < Z.size) × Ready P Z S c k
   kept_ready k n s =

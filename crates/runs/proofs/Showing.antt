@@ -1,6 +1,6 @@
 -- One core goes on, and what the values then show.
-use Rattle.std.proofs.Common.{◌≡◌, ℕ, ◌<◌, List, length, get_or, set, Some, Option, sym, ap, ◌∙◌, subst, inl, inr, arith, length-set}
-use Rattle.std.proofs.lemmas.List.{get_or-set_same, get_or-set_other}
+use Rattle.std.proofs.Common.{◌≡◌, ℕ, ◌<◌, ◌≤◌, List, ◌++◌, length, get_or, set, take, Some, Option, sym, ap, ◌∙◌, subst, inl, inr, arith, length-set}
+use Rattle.std.proofs.lemmas.List.{get_or-set_same, get_or-set_other, get_or_read, set-get_or, take_at}
 use Rattle.std.proofs.lemmas.Bool.{cases_eq}
 use Rattle.argument.specs.Plans.{Plan}
 use Rattle.bus.specs.Courses.{Event}
@@ -13,12 +13,12 @@ use Rattle.runs.specs.declared.rows.LogRow.{LogRow}
 use Rattle.runs.specs.declared.stage.Turn.TheVariants.{First, Last}
 use Rattle.runs.specs.declared.stage.Stage.{Stage}
 use Rattle.runs.specs.declared.stage.Stage.TheVariants.{Idle, Waiting, A, E, R}
-use Rattle.runs.specs.declared.stage.Event.TheVariants.{Granted, Ended}
+use Rattle.runs.specs.declared.stage.Event.TheVariants.{Ended}
 use Rattle.runs.specs.Machine.{job, number, none, onward, Inside}
 use Rattle.runs.specs.Pool.{Pool, Pooled}
 use Rattle.runs.specs.Shown.{Shows, AllInside, script_of, shown}
 
-module _ (P : Plan) (J : List Job) (time : ℕ) (stages : List Stage) (started : Pool) (log : List LogRow) (S : State) (s : Shows P J time stages started log S) (h : Cores P (script_of J) S.cell S.has) where
+module _ {P : Plan} {J : List Job} {time : ℕ} {stages : List Stage} {started : Pool} {log : List LogRow} {S : State} (s : Shows P J time stages started log S) (h : Cores P (script_of J) S.cell S.has) where
   -- core c goes on to s', and its job k to x
   pub shows_on : (c k : ℕ) (s' : Stage) (x : Cell) (has' : ℕ → Option ℕ) (es : List Event) (started' : Pool) (log' : List LogRow)
       → c < length stages → core_at P (script_of J) k ≡ c
@@ -61,14 +61,6 @@ module _ (P : Plan) (J : List Job) (time : ℕ) (stages : List Stage) (started :
     | inr ne ↦ get_or-set_other log k j y none ne ∙ s.row j l ∙ ap (shown P) (sym (ap (job_of (script_of J) j) (put_off S.cell k x j ne)))
   ]
 
--- what a stage with a job says
-pub inside_job : (n : ℕ) (s : Stage) (k : ℕ) → Inside n s → job s ≡ Some k → k < n
-inside_job n Idle k i e = (let z : ◌≡◌ {A = ℕ} 0 1 = cc in absurd (omega arith))
-inside_job n (Waiting t j) k i e = (let z : j ≡ k = cc in omega arith)
-inside_job n (A j) k i e = (let z : j ≡ k = cc in omega arith)
-inside_job n (E j) k i e = (let z : j ≡ k = cc in omega arith)
-inside_job n (R j) k i e = (let z : j ≡ k = cc in omega arith)
-
 pub inside_set : (n : ℕ) (stages : List Stage) (c : ℕ) (s : Stage) → AllInside n stages → Inside n s → AllInside n (set stages c s)
 inside_set n stages c s h i d l = elim (cases_eq d c) [
   | inl u ↦ subst (Inside n) (sym (ap (λ i. get_or (set stages c s) i Idle) u ∙ get_or-set_same stages c s Idle (omega (arith, u, length-set stages c s)))) i
@@ -83,10 +75,21 @@ inside_on n (A k) i = i
 inside_on n (E k) i = i
 inside_on n (R k) i = tt
 
-pub inside_granted : (n : ℕ) (s : Stage) → Inside n s → Inside n (onward s Granted)
-inside_granted n Idle i = i
-inside_granted n (Waiting First k) i = i
-inside_granted n (Waiting Last k) i = i
-inside_granted n (A k) i = i
-inside_granted n (E k) i = i
-inside_granted n (R k) i = i
+-- what the cores' vector holds after a loop over it, which ended at core c with its stage as it was
+pub inside_back : (k n c m : ℕ) (stages rest : List Stage) → k ≡ n → length stages ≡ m → AllInside k stages → AllInside n (take m (set stages c (get_or stages c Idle) ++ rest))
+inside_back k n c m stages rest e l h = rw (set-get_or stages c Idle, take_at stages rest m l) (subst (λ i. AllInside i stages) e h)
+
+-- of more jobs each is still one
+pub inside_more : (m n : ℕ) (stages : List Stage) → m ≤ n → AllInside m stages → AllInside n stages
+inside_more m n stages l h c k = go (get_or stages c Idle) (h c k)
+  where
+    go : (s : Stage) → Inside m s → Inside n s
+    go Idle i = i
+    go (Waiting t k) i = omega arith
+    go (A k) i = omega arith
+    go (E k) i = omega arith
+    go (R k) i = omega arith
+
+-- the stage that is read at c
+pub inside_read : (m n : ℕ) (stages : List Stage) (s : Stage) (c : ℕ) → m ≡ n → AllInside m stages → c < length stages → s ≡ get_or stages c s → Inside n s
+inside_read m n stages s c e h l r = subst (Inside n) (sym (get_or_read stages c s l r Idle)) (subst (λ i. Inside i (get_or stages c Idle)) e (h c l))

@@ -1,5 +1,6 @@
 -- A core's stages: which job, which phase, and what an event makes of them. Assumes nothing.
 use Rattle.std.specs.Prelude.{ℕ, ◌+◌, ◌<◌, Bool, true, false, List, Some, None, Option, ◌==◌, slice_index_or}
+use Rattle.std.specs.Coded.{Unit-prop, le_prop}
 use Rattle.runs.specs.declared.rows.LogRow.{LogRow}
 use Rattle.runs.specs.declared.rows.Job.{Job}
 use Rattle.runs.specs.declared.stage.Turn.{Turn}
@@ -58,6 +59,14 @@ Inside n (Waiting t k) = k < n
 Inside n (A k) = k < n
 Inside n (E k) = k < n
 Inside n (R k) = k < n
+
+-- which holds in one way only, so that it may stand in a type
+pub Inside_prop : (n : ℕ) (s : Stage) → IsProp (Inside n s)
+Inside_prop n Idle = Unit-prop
+Inside_prop n (Waiting t k) = le_prop
+Inside_prop n (A k) = le_prop
+Inside_prop n (E k) = le_prop
+Inside_prop n (R k) = le_prop
 
 -- a phase on the bus ends now
 abbrev pub leaves : List LogRow → ℕ → Stage → Bool

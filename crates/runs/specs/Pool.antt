@@ -1,7 +1,8 @@
 -- The ready jobs as the program keeps them. Assumes nothing.
-use Rattle.std.specs.Prelude.{◌≡◌, ℕ, suc, ◌+◌, ◌<◌, ◌≤◌, true, cond, ◌&&◌, List, [], ◌∷◌, Some, None, Option, ◌==◌, nat_lt, refl}
+use Rattle.std.specs.Prelude.{◌≡◌, ℕ, ◌+◌, ◌<◌, ◌≤◌, true, cond, ◌&&◌, List, [], ◌∷◌, Some, None, Option, ◌==◌, nat_lt, refl}
 use Rattle.std.specs.declared.cmp.Ordering.{Ordering}
 use Rattle.std.specs.Cmp.{IsTotalOrder}
+use Rattle.std.specs.Coded.{×_prop, Unit-prop, le_prop}
 use Rattle.std.specs.Ordering.{nat_cmp, ordering_then}
 use Rattle.roster.specs.Order.{rises}
 use Rattle.argument.specs.Sums.{on}
@@ -12,6 +13,7 @@ use Rattle.bridge.specs.States.{State}
 use Rattle.runs.specs.contracts.ready.ReadyOrd.TheImpl.{ghosts}
 use Rattle.runs.specs.contracts.ready.ReadyOrd.TheImpl.Laws.{lawful}
 use Rattle.runs.specs.declared.ready.Ready.{Ready}
+use Rattle.runs.specs.declared.rows.Job.{Job}
 
 -- the order in which they are kept: by core, then rank, then release, then row
 abbrev pub ready_cmp : Ready → Ready → Ordering
@@ -24,10 +26,9 @@ derived_ready_cmp x y = refl
 pub ready_order : IsTotalOrder ready_cmp
 ready_order = lawful.total
 
--- the place of the first of a core
-abbrev pub place : ℕ → List Ready → ℕ
-place core [] = 0
-place core (x ∷ xs) = cond (x.core == core) 0 (suc (place core xs))
+-- what is kept of a job, by its row in the script
+abbrev pub ready_of : ℕ → Job → Ready
+ready_of row job = record { core = job.core; rank = job.rank; release = job.release; row = row }
 
 -- the first of a core, by its row in the script
 abbrev pub chosen : ℕ → List Ready → Option ℕ
@@ -48,6 +49,11 @@ count k (x ∷ xs) = on (x.row == k) 1 + count k xs
 abbrev pub RowsBelow : ℕ → List Ready → Type 0
 RowsBelow n [] = Unit {0}
 RowsBelow n (x ∷ xs) = (x.row < n) × RowsBelow n xs
+
+-- which holds in one way only, so that it may stand in a type
+pub RowsBelow_prop : (n : ℕ) (xs : List Ready) → IsProp (RowsBelow n xs)
+RowsBelow_prop n [] = Unit-prop
+RowsBelow_prop n (x ∷ xs) = ×_prop le_prop (RowsBelow_prop n xs)
 
 -- what is kept of a job is what the plan and the script say of it
 pub record Keyed (plan : Plan) (script : Script) (x : Ready) : Type 0 where

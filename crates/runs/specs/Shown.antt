@@ -14,7 +14,7 @@ use Rattle.runs.specs.declared.rows.Job.{Job}
 use Rattle.runs.specs.declared.rows.LogRow.{LogRow}
 use Rattle.runs.specs.declared.stage.Stage.{Stage}
 use Rattle.runs.specs.declared.stage.Stage.TheVariants.{Idle}
-use Rattle.runs.specs.Machine.{job, number, none, Inside}
+use Rattle.runs.specs.Machine.{job, number, none, Inside, Inside_prop}
 use Rattle.runs.specs.Pool.{Pool, Pooled}
 
 abbrev pub no_job : Job
@@ -55,6 +55,10 @@ pub record Shows (plan : Plan) (jobs : List Job) (time : ℕ) (stages : List Sta
 
 abbrev pub AllInside : ℕ → List Stage → Type 0
 AllInside n stages = (c : ℕ) → c < length stages → Inside n (slice_index_or stages c Idle)
+
+-- which holds in one way only, so that it may stand in a type
+pub AllInside_prop : (n : ℕ) (stages : List Stage) → IsProp (AllInside n stages)
+AllInside_prop n stages x y = λ i c l. Inside_prop n (slice_index_or stages c Idle) (x c l) (y c l) i
 
 -- the states of a run, also those inside the first steps of a moment
 pub data Reached (plan : Plan) (script : Script) : State → Type 0 where

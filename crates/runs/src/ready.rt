@@ -1,7 +1,8 @@
 // Ready jobs, kept in the roster: by core, then by rank, then by release.
-ghost use Rattle.std.specs.Prelude.{◌≡◌, ℕ, ◌<◌, ◌≤◌, length, Some, vec_len, vec_capacity};
-ghost use Rattle.runs.specs.Pool.{place, chosen, without, RowsBelow};
+ghost use Rattle.std.specs.Prelude.{◌≡◌, ℕ, ◌<◌, ◌≤◌, IfSome, vec_len, vec_capacity};
+ghost use Rattle.runs.specs.Pool.{ready_of, chosen, without, RowsBelow};
 
+use crate::rows::Job;
 use roster::Roster;
 
 // A job that is released and not started. The first of its core goes first.
@@ -14,31 +15,29 @@ pub struct Ready {
     pub row: usize,
 }
 
-// Where the first of the core stands, or the end.
-fn place(items: &[Ready], core: u8) -> usize
-    ensures within { result ≤ length items.now }
-    ensures value { result ≡ place core items.now }
-{
-    for i in 0..items.len() {
-        if items[i].core == core {
-            return i;
+impl Ready {
+    // What is kept of the job that stands at this row of the script.
+    pub fn new(row: usize, job: &Job) -> Ready
+        ensures { result ≡ ready_of row job.now }
+    {
+        Ready {
+            core: job.core,
+            rank: job.rank,
+            release: job.release,
+            row,
         }
     }
-    items.len()
 }
 
 // Takes out the core's first ready job.
 pub fn take_ready(ready: &mut Roster<Ready>, core: u8) -> Option<usize>
     ensures job { result ≡ chosen core ready.old.items.items }
     ensures items { ready.new.items.items ≡ without core ready.old.items.items }
+    ensures row { (n : ℕ) → RowsBelow n ready.old.items.items → IfSome result (λ k. k < n) }
+    ensures below { (n : ℕ) → RowsBelow n ready.old.items.items → RowsBelow n ready.new.items.items }
     ensures len { vec_len ready.new.items ≤ vec_len ready.old.items }
     ensures room { vec_capacity ready.new.items ≡ vec_capacity ready.old.items }
 {
-    let i = place(ready.as_slice(), core);
-    if i < ready.as_slice().len() {
-        let first = ready.take(i);
-        Some(first.row)
-    } else {
-        None
-    }
+    let i = ready.as_slice().iter().position(|job| job.core == core)?;
+    Some(ready.take(i).row)
 }

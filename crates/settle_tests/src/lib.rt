@@ -69,9 +69,9 @@ mod tests {
         outcomes: [Outcome; 3],
     ) -> Result<(), Fail> {
         assert_eq!(rt; plan.settle(&bus?), Ok(late));
-        assert_eq!(rt; plan.window(1), Ok(outcomes[0]));
-        assert_eq!(rt; plan.window(2), Ok(outcomes[1]));
-        assert_eq!(rt; plan.window(3), Ok(outcomes[2]));
+        for (id, outcome) in [1, 2, 3].into_iter().zip(outcomes) {
+            assert_eq!(rt; plan.window(id), Ok(outcome));
+        }
         Ok(())
     }
 

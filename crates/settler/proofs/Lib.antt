@@ -1,2 +1,1 @@
 mod Standing
-mod Told

@@ -23,13 +23,13 @@ line_stands RoundRobin (Two outer inner) = refl
 
 pub may_stand : (plan : Plan) → MayStand (spelling (content plan))
 may_stand plan =
-    let few : length (vec_items plan.rows) ≤ 64 = omega (arith, plan.«few», plan.rows.ok.0) in
+    let few : length (vec_items plan.table.rows) ≤ 64 = omega (arith, plan.table.«few», plan.table.rows.ok.0) in
     record {
-      line = line_stands plan.platform.line.bottom plan.platform.line.favours;
-      platform = rw plan.platform_ok refl;
+      line = line_stands plan.table.platform.line.bottom plan.table.platform.line.favours;
+      platform = rw plan.table.«fits» refl;
       few = few;
-      each = plan.tasks_ok;
-      apart = plan.all_apart;
+      each = plan.table.«tasks»;
+      apart = plan.table.«apart»;
     }
 
 pub loads_as_itself : (plan : Plan) → spelled (written (spelling (content plan))) ≡ Ok (spelling (content plan))

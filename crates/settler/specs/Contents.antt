@@ -18,10 +18,10 @@ pub record Content : Type 0 where
 
 abbrev pub content : Plan → Content
 content plan = record {
-  cores = plan.platform.cores;
-  bottom = bottom_number plan.platform.line.bottom;
-  favours = favoured plan.platform.line.favours;
-  rows = vec_items plan.rows;
+  cores = plan.table.platform.cores;
+  bottom = bottom_number plan.table.platform.line.bottom;
+  favours = favoured plan.table.platform.line.favours;
+  rows = vec_items plan.table.rows;
   settled = cond plan.settled (Some (vec_items plan.outcomes)) None;
 }
 

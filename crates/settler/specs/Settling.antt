@@ -1,6 +1,6 @@
 -- When a settle is accepted, what it leaves, and what window tells of it. Assumes nothing.
 use Rattle.std.specs.Prelude.{◌≡◌, ℕ, cond, List, Some, None, Ok, Err, Option, Result, ◌==◌, slice_index_or}
-use Rattle.tasks.specs.declared.limit.Limit.{Limit}
+use Rattle.tasks.specs.Limits.{Limit}
 use Rattle.tasks.specs.declared.outcome.Outcome.{Outcome}
 use Rattle.tasks.specs.declared.outcome.Outcome.TheVariants.{Late}
 use Rattle.tasks.specs.Refusals.{Told, refusal}

@@ -1,37 +1,29 @@
 // A plan: the tasks of every core, and what was settled for them.
 ghost use Rattle.std.specs.Prelude.{◌≡◌, ◌≤◌, true, vec_len, vec_capacity};
-ghost use Rattle.tasks.specs.Platforms.{cores_fit, favoured};
-ghost use Rattle.rules.specs.Rules.{EachATask, AllApart};
 
 use demand::work::Work;
+use rules::table::Table;
 use tasks::outcome::Outcome;
-use tasks::platform::Platform;
-use tasks::task::Row;
+use writing::text::Text;
 
 pub mod edits;
 pub mod settling;
 pub mod sheet;
 
-// Rows are kept in the order of adding. What its ghost fields say holds of every plan: a plan cannot hold a wrong task.
+// A plan cannot hold a wrong task: its table cannot.
 #[derive(Drop)]
 pub struct Plan {
-    platform: Platform,
-    rows: Vec<Row>,
-    // one for each row, as long as `settled` says so
+    // cores, bus line and tasks
+    table: Table,
+    // One for each row, as long as `settled` says so. They are no Option, and no part of the rows: their memory is reserved by
+    // open and kept while nothing is settled, and a plan without a task is settled or not like any other.
     outcomes: Vec<Outcome>,
     settled: bool,
     // working memory: no content of the plan
     work: Work,
-    spare: Vec<Row>,
-    text: Vec<u8>,
-    ghost platform_ok: { cores_fit platform.cores (favoured platform.line.favours) ≡ true },
-    ghost few: { vec_len rows ≤ 64 },
-    ghost tasks_ok: { EachATask platform.cores rows.items },
-    ghost all_apart: { AllApart rows.items },
-    ghost told_all: { settled ≡ true → vec_len outcomes ≡ vec_len rows },
-    // what open reserved, so that no later call asks for memory
-    ghost row_room: { 64 ≤ vec_capacity rows },
+    spare: Table,
+    // more than 64 tasks come to, as a sheet and as lines
+    text: Text<8192>,
+    ghost told_all: { settled ≡ true → vec_len outcomes ≡ vec_len table.rows },
     ghost outcome_room: { 64 ≤ vec_capacity outcomes },
-    ghost spare_room: { 64 ≤ vec_capacity spare },
-    ghost text_room: { 8192 ≤ vec_capacity text },
 }

@@ -23,20 +23,18 @@ pub fn box_sheet() -> [u8; 88] {
     ]
 }
 
-// The number, the layer and the place of a fault, or none where the sheet loads.
+// The refusal, the layer and the place of a fault, or none where the sheet loads: in a row of a table they read better without names.
 pub fn fault_of(plan: &mut Plan, sheet: &[u8]) -> Option<(Refusal, Layer, usize)> {
-    match plan.load(sheet) {
-        Ok(()) => None,
-        Err(fault) => Some((fault.refusal, fault.layer, fault.place)),
-    }
+    let fault = plan.load(sheet).err()?;
+    Some((fault.refusal, fault.layer, fault.place))
 }
 
 // The box with some bytes changed.
 fn changed(changes: &[(usize, u8)]) -> [u8; 88] {
     let mut sheet = box_sheet();
     for (place, byte) in changes {
-        if *place < 88 {
-            sheet[*place] = *byte;
+        if let Some(here) = sheet.get_mut(*place) {
+            *here = *byte;
         }
     }
     sheet
@@ -44,11 +42,7 @@ fn changed(changes: &[(usize, u8)]) -> [u8; 88] {
 
 // What comes of the first bytes of a sheet.
 fn fault_of_front(plan: &mut Plan, sheet: &[u8], count: usize) -> Option<(Refusal, Layer, usize)> {
-    if count < sheet.len() {
-        fault_of(plan, &sheet[0..count])
-    } else {
-        fault_of(plan, sheet)
-    }
+    fault_of(plan, sheet.get(..count).unwrap_or(sheet))
 }
 
 // What comes of the box's first bytes, with some of them changed.
@@ -59,15 +53,6 @@ pub fn fault_with(
 ) -> Option<(Refusal, Layer, usize)> {
     let sheet = changed(changes);
     fault_of_front(plan, &sheet, count)
-}
-
-// As many bytes 0, to be written over.
-pub fn zeros(rt: &HostRuntime, count: usize) -> Result<Vec<u8>, Fail> {
-    let mut bytes = Vec::with_capacity(rt.alloc(), count)?;
-    for _ in 0..count {
-        bytes.push(0)?;
-    }
-    Ok(bytes)
 }
 
 // A sheet of one core and as many tasks, each with its own id and rank.

@@ -1,5 +1,5 @@
 // Loading, saving and printing.
-use crate::samples::{box_sheet, fault_of, fault_with, many, third_record, zeros};
+use crate::samples::{box_sheet, fault_of, fault_with, many, third_record};
 use queue::Queue;
 use settler::plan::Plan;
 use sheets::plan::Layer;
@@ -179,7 +179,7 @@ fn a_refused_load_leaves_the_plan(rt: HostRuntime) -> Result<(), Fail> {
         fault_with(&mut plan, &[(4, 16), (87, 0)], 88),
         Some((Refusal::Length, Layer::Plan, 61))
     );
-    let mut out = zeros(&rt, 88)?;
+    let mut out = vec![in rt.alloc(); 0u8; 88]?;
     assert_eq!(rt; plan.save(out.as_mut_slice()), Ok(88));
     assert_eq!(rt; out.as_slice(), box_sheet().as_slice());
     Ok(())
@@ -190,7 +190,7 @@ fn a_sheet_of_64_tasks_is_saved_as_the_same_bytes(rt: HostRuntime) -> Result<(),
     let mut plan = Plan::open(rt.alloc(), 2, 1, &[])?;
     let full = many(&rt, 64)?;
     assert_eq!(rt; fault_of(&mut plan, full.as_slice()), None);
-    let mut out = zeros(&rt, 1735)?;
+    let mut out = vec![in rt.alloc(); 0u8; 1735]?;
     assert_eq!(rt; plan.save(out.as_mut_slice()), Ok(1735));
     assert_eq!(rt; out.as_slice(), full.as_slice());
     assert_eq!(rt;

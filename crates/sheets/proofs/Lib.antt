@@ -1,7 +1,4 @@
-mod Heads
-mod Platforms
 mod Gathering
-pub mod Loaded
 mod InBytes
 mod SavedAgain
 pub mod LoadedAgain

@@ -1,23 +1,24 @@
 -- A saved plan loads as itself: each record that is written is read as what it was written for.
-use Rattle.std.proofs.Common.{◌≡◌, ℕ, zero, suc, ◌+◌, ◌-◌, ◌<◌, ◌≤◌, true, false, ◌&&◌, eqb, ltb, leb, List, [], ◌∷◌, ◌++◌, length, get_or, take, drop, is_some, Some, None, Ok, Result, sym, refl, ap, ◌∙◌, subst, append_assoc, append-nil, arith}
+use Rattle.std.proofs.Common.{◌≡◌, ℕ, zero, suc, ◌+◌, ◌-◌, ◌<◌, ◌≤◌, true, false, ◌&&◌, eqb, ltb, leb, List, [], ◌∷◌, ◌++◌, length, get_or, take, drop, is_some, Some, Ok, Result, sym, refl, ap, ◌∙◌, subst, append_assoc, append-nil, arith}
 use Rattle.std.proofs.lemmas.List.{drop_at, drop-drop, take_at, length-append, length-drop, get_or_at, get_or_append_left}
-use Rattle.std.proofs.lemmas.Bool.{le-leb, lt-leb, le-ltb, eq-eqb, ne_eqb, ltb-true, and_from, and_parts, or_from}
+use Rattle.std.proofs.lemmas.Bool.{le-leb, lt-leb, le-ltb, ne_eqb, ltb-true, and_parts}
 use Rattle.std.proofs.lemmas.Bool.Decides.{nat_tests}
 use Rattle.tasks.specs.declared.task.Row.{Row}
 use Rattle.tasks.specs.Platforms.{line_verdict}
 use Rattle.tasks.specs.Refusals.{Told}
 use Rattle.tasks.specs.Rows.{no_row, bounded}
 use Rattle.tasks.proofs.Verdicts.{bounded_is_accepted}
-use Rattle.rules.specs.Rules.{place_from, known, clash, clashes, add_verdict, with_row, is_task_of, apart}
+use Rattle.rules.proofs.Found.{place_none, clash_none}
+use Rattle.rules.specs.Rules.{EachATask, AllApart, known, clash, clashes, add_verdict, with_row, is_task_of, apart}
 use Rattle.sheets.specs.Bytes.{two, in_two}
 use Rattle.sheets.specs.Records.{Part, head_of, present, record_at, place_after, start_of}
 use Rattle.sheets.specs.Entries.{Held, platform, task, if_ok, held_in}
-use Rattle.sheets.specs.Spelled.{Head, Placed, head_held, head_in, task_held, task_record, rows_from, with_rows, planned_by, headed, started}
+use Rattle.sheets.specs.Spelled.{Head, head_held, head_in, task_held, task_record, rows_from, with_rows, planned_by, headed, started}
+use Rattle.sheets.specs.declared.placed.Placed.{Placed}
 use Rattle.sheets.specs.Written.{platform_bytes, body_bytes, task_bytes, tasks_bytes, written}
 use Rattle.sheets.specs.Theorems.{ASavedPlanLoadsAsItself}
 use Rattle.sheets.proofs.Gathering.{admitted}
 use Rattle.sheets.proofs.InBytes.{two_of, row_of}
-use Rattle.sheets.proofs.Loaded.{SoundRows}
 
 -- ---- a record
 
@@ -41,19 +42,17 @@ record_of sheet p n kind body more is e =
 
 -- ---- a task, accepted as an add to those before it
 
-no_place : (rows : List Row) (i id : ℕ) → ((u : ℕ) → u < length rows → (get_or rows u no_row).id ≡ id → ⊥) → place_from i id rows ≡ None
-no_place [] i id none = refl
-no_place (row ∷ rows) i id none = rw (ne_eqb row.id id (none 0 (omega arith))) (no_place rows (i + 1) id (λ u h. none (suc u) (omega arith)))
-
-no_clash : (rows : List Row) (new : Row) → ((u : ℕ) → u < length rows → clash new (get_or rows u no_row) ≡ false) → clashes new rows ≡ false
-no_clash [] new none = refl
-no_clash (row ∷ rows) new none = or_from (clash new row) (clashes new rows) (none 0 (omega arith)) (no_clash rows new (λ u h. none (suc u) (omega arith)))
-
 apart_ids : (old new : Row) → apart old new ≡ true → old.id ≡ new.id → ⊥
 apart_ids old new p q = grind (arith, nat_tests)
 
 apart_ranks : (old new : Row) → apart old new ≡ true → clash new old ≡ false
 apart_ranks old new p = grind (arith, nat_tests)
+
+-- what the rows of a plan keep
+record SoundRows (cores : ℕ) (rows : List Row) : Type 0 where
+  pub few : length rows ≤ 64
+  pub each : EachATask cores rows
+  pub apart : AllApart rows
 
 accepted : (cores : ℕ) (before : List Row) (row : Row) (rows : List Row) → SoundRows cores (before ++ (row ∷ rows)) → add_verdict cores before row ≡ Ok tt
 accepted cores before row rows sound =
@@ -64,8 +63,8 @@ accepted cores before row rows sound =
     let pair : (u : ℕ) → u < length before → apart (get_or before u no_row) row ≡ true =
     λ u h. subst (λ r. apart r row ≡ true) (get_or_append_left before (row ∷ rows) no_row u h)
     (subst (λ r. apart (get_or (before ++ (row ∷ rows)) u no_row) r ≡ true) here (sound.apart u (length before) (h, omega (arith, size)))) in
-    let absent : known row.id before ≡ false = ap is_some (no_place before 0 row.id (λ u h. apart_ids (get_or before u no_row) row (pair u h))) in
-    let alone : clashes row before ≡ false = no_clash before row (λ u h. apart_ranks (get_or before u no_row) row (pair u h)) in
+    let absent : known row.id before ≡ false = ap is_some (place_none before row.id (λ u h. apart_ids (get_or before u no_row) row (pair u h))) in
+    let alone : clashes row before ≡ false = clash_none before row (λ u h. apart_ranks (get_or before u no_row) row (pair u h)) in
     let few : length before < 64 = omega (arith, size, sound.few) in
     rw (lt-leb cores row.core (ltb-true row.core cores parts.0), absent, lt-leb 64 (length before) few, alone) (bounded_is_accepted row parts.1)
 
@@ -83,7 +82,7 @@ rows_forth (suc more) cores sheet p before [] enough e sound =
     rw (le-leb (length sheet) p over) (ap Ok (sym (append-nil before)))
 rows_forth (suc more) cores sheet p before (row ∷ rows) enough e sound =
     let part : Part = record { place = p; kind = 2; body = body_bytes row } in
-    let placed : Placed = record { place = p; row = row } in
+    let placed : Placed Row = record { place = p; what = row } in
     let found : record_at sheet p ≡ Ok (Some part) = record_of sheet p 25 2 (body_bytes row) (tasks_bytes rows) refl e in
     let taken : task_record (record_at sheet p) ≡ Ok (Some placed) = ap task_record found ∙ ap (task_held p) (task_of p row) in
     let next : place_after (record_at sheet p) p ≡ p + 27 = ap (λ x. place_after x p) found ∙ omega arith in
@@ -107,9 +106,7 @@ platform_of : (p cores bottom : ℕ) (favours : List ℕ) → line_verdict botto
     → held_in (record { place = p; kind = 1; body = cores ∷ bottom ∷ length favours ∷ favours }) ≡ Ok (platform cores bottom favours)
 platform_of p cores bottom favours ok =
     let body : List ℕ = cores ∷ bottom ∷ length favours ∷ favours in
-    let long : length body ≡ 3 + length favours = omega arith in
-    let sized : (leb 3 (length body) && eqb (length body) (3 + length favours)) ≡ true =
-    and_from (leb 3 (length body)) (eqb (length body) (3 + length favours)) (le-leb 3 (length body) (omega (arith, long))) (eq-eqb (length body) (3 + length favours) long) in
+    let sized : (leb 3 (length body) && eqb (length body) (3 + length favours)) ≡ true = grind (arith, nat_tests) in
     rw sized (if_ok_lem (line_verdict bottom favours) (platform cores bottom favours) ok)
 
 pub loaded_again : ASavedPlanLoadsAsItself

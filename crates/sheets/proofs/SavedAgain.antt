@@ -1,16 +1,17 @@
 -- A loaded sheet is saved as the same bytes: each record that was read is written as the bytes that it was read from.
-use Rattle.std.proofs.Common.{◌≡◌, ℕ, zero, suc, ◌+◌, ◌-◌, ◌<◌, ◌≤◌, Bool, true, false, cond, ◌&&◌, eqb, ltb, leb, ◌⊎◌, List, [], ◌∷◌, ◌++◌, length, get_or, take, drop, None, Ok, Err, Result, sym, refl, ap, ◌∙◌, subst, inl, inr, append_assoc, append-nil, arith}
+use Rattle.std.proofs.Common.{◌≡◌, ℕ, zero, suc, ◌+◌, ◌-◌, ◌<◌, ◌≤◌, Bool, true, false, cond, eqb, leb, List, [], ◌∷◌, ◌++◌, length, get_or, take, drop, None, Ok, Err, Result, sym, refl, ap, ◌∙◌, subst, inl, inr, append_assoc, append-nil, arith}
 use native.Mathlib.Nat.{min-le_left}
 use Rattle.std.proofs.lemmas.List.{drop_more, drop_all, drop-drop, take-append-drop, length-take-le, length-take, length-drop, get_or-drop, get_or-take, get_or_past}
-use Rattle.std.proofs.lemmas.Bool.{cases_Bool, cases_lt, leb-true, leb-false, ltb-false, eqb-true, eqb-false, and_parts}
+use Rattle.std.proofs.lemmas.Bool.Decides.{nat_tests}
+use Rattle.std.proofs.lemmas.Bool.{cases_Bool, cases_lt, leb-true, leb-false, eqb-true, eqb-false}
 use Rattle.tasks.specs.declared.task.Row.{Row}
-use Rattle.tasks.specs.Platforms.{line_verdict, cores_verdict}
-use Rattle.tasks.specs.Refusals.{Told, refusal}
+use Rattle.tasks.specs.Platforms.{cores_verdict}
+use Rattle.tasks.specs.Refusals.{Told}
 use Rattle.rules.specs.Rules.{add_verdict, with_row}
 use Rattle.sheets.specs.Bytes.{two, in_two}
 use Rattle.sheets.specs.Records.{Part, Spot, at, head_of, present, record_at, place_after}
-use Rattle.sheets.specs.Entries.{Held, platform, task, row_in, if_ok, platform_in, task_in, held_in}
-use Rattle.sheets.specs.Spelled.{Head, Mistake, Spelling, head_held, head_in, task_held, task_record, judged, grown, rows_from, with_rows, planned_by, headed, started}
+use Rattle.sheets.specs.Entries.{Held, platform, task, row_in, held_in}
+use Rattle.sheets.specs.Spelled.{Head, Mistake, Spelling, head_held, head_in, task_held, task_record, judged, grown, rows_from, planned_by, headed, started}
 use Rattle.sheets.specs.Written.{platform_bytes, task_bytes, tasks_bytes}
 use Rattle.sheets.specs.Theorems.{EachAByte, ALoadedSheetIsSavedAsTheSameBytes}
 use Rattle.sheets.proofs.InBytes.{two_back, body_back}
@@ -44,13 +45,6 @@ below_take n xs below k = elim (cases_lt k n) [
 abbrev part_bytes : Part → List ℕ → List ℕ
 part_bytes part more = in_two (1 + length part.body) ++ (part.kind ∷ (part.body ++ more))
 
-head_by : (b c d : Bool) (x y z : Spot) (found part : Part) → ◌≡◌ {A = Result Part Spot} (cond b (Err x) (cond c (Err y) (cond d (Err z) (Ok found)))) (Ok part)
-    → (b ≡ false) × (c ≡ false) × (d ≡ false) × (found ≡ part)
-head_by true c d x y z found part e = absurd (let z : ◌≡◌ {A = ℕ} 0 1 = cc in omega arith)
-head_by false true d x y z found part e = absurd (let z : ◌≡◌ {A = ℕ} 0 1 = cc in omega arith)
-head_by false false true x y z found part e = absurd (let z : ◌≡◌ {A = ℕ} 0 1 = cc in omega arith)
-head_by false false false x y z found part e = (refl, refl, refl, cc)
-
 -- what was read of the front of some bytes
 record FrontOf (rest : List ℕ) (p : ℕ) (part : Part) : Type 0 where
   pub place : part.place ≡ p
@@ -61,9 +55,9 @@ head_back : (rest : List ℕ) (p : ℕ) (part : Part) → Below rest → head_of
 head_back rest p part below e =
     let n = two rest 0 in
     let found : Part = record { place = p; kind = get_or rest 2 0; body = take (n - 1) (drop 3 rest) } in
-    let by = head_by (ltb (length rest) 2) (eqb n 0) (ltb (length rest) (2 + n)) (at 1 p) (at 3 p) (at 1 p) found part e in
-    let some = eqb-false n 0 by.1 in
-    let room : 2 + n ≤ length rest = ltb-false (length rest) (2 + n) by.2 in
+    let some : 1 ≤ n = grind (arith, nat_tests) in
+    let room : 2 + n ≤ length rest = grind (arith, nat_tests) in
+    let is : found ≡ part = grind (arith, nat_tests) in
     let long : length (take (n - 1) (drop 3 rest)) ≡ n - 1 = length-take-le (n - 1) (drop 3 rest) (omega (arith, length-drop 3 rest, some)) in
     let size : 1 + length (take (n - 1) (drop 3 rest)) ≡ n = omega (arith, some) in
     let after : drop (3 + length (take (n - 1) (drop 3 rest))) rest ≡ drop (n - 1) (drop 3 rest) =
@@ -74,35 +68,16 @@ head_back rest p part below e =
     ∙ ap (λ t. in_two n ++ (get_or rest 2 0 ∷ t)) (take-append-drop (n - 1) (drop 3 rest))
     ∙ ap (λ t. in_two n ++ t) (sym (drop_more rest 2 0 (omega (arith, some))))
     ∙ two_back rest below 0 (omega arith) in
-    subst (FrontOf rest p) by.3 (record { place = refl; below = below_take (n - 1) (drop 3 rest) (below_drop 3 rest below); bytes = all })
+    subst (FrontOf rest p) is (record { place = refl; below = below_take (n - 1) (drop 3 rest) (below_drop 3 rest below); bytes = all })
 
 -- ---- a task
 
-kinds_by : (b c : Bool) (x y : Result Held Told) (held : Held) → cond b x (cond c y (Err (refusal 3))) ≡ Ok held
-    → ((b ≡ true) × (x ≡ Ok held)) ⊎ ((c ≡ true) × (y ≡ Ok held))
-kinds_by true c x y held e = inl (refl, e)
-kinds_by false true x y held e = inr (refl, e)
-kinds_by false false x y held e = absurd (let z : ◌≡◌ {A = ℕ} 0 1 = cc in omega arith)
-
-line_no_task : (b : Bool) (v : Result (Unit {0}) Told) (cores bottom : ℕ) (favours : List ℕ) (row : Row) → cond b (if_ok v (platform cores bottom favours)) (Err (refusal 3)) ≡ Ok (task row) → ⊥
-line_no_task true (Ok x) cores bottom favours row e = let z : ◌≡◌ {A = ℕ} 0 1 = cc in omega arith
-line_no_task true (Err told) cores bottom favours row e = let z : ◌≡◌ {A = ℕ} 0 1 = cc in omega arith
-line_no_task false v cores bottom favours row e = let z : ◌≡◌ {A = ℕ} 0 1 = cc in omega arith
-
-task_by : (b : Bool) (held other : Held) → ◌≡◌ {A = Result Held Told} (cond b (Ok held) (Err (refusal 3))) (Ok other) → (b ≡ true) × (held ≡ other)
-task_by true held other e = (refl, cc)
-task_by false held other e = absurd (let z : ◌≡◌ {A = ℕ} 0 1 = cc in omega arith)
-
-same_task : (one other : Row) → task one ≡ task other → one ≡ other
-same_task one other e = cc
-
 task_held_lem : (part : Part) (row : Row) → held_in part ≡ Ok (task row) → (part.kind ≡ 2) × (length part.body ≡ 24) × (row_in part.body ≡ row)
-task_held_lem part row e = elim (kinds_by (eqb part.kind 1) (eqb part.kind 2) (platform_in part.body) (task_in part.body) (task row) e) [
-  | inl p ↦ absurd (line_no_task (leb 3 (length part.body) && eqb (length part.body) (3 + get_or part.body 2 0)) (line_verdict (get_or part.body 1 0) (drop 3 part.body))
-      (get_or part.body 0 0) (get_or part.body 1 0) (drop 3 part.body) row p.1)
-  | inr p ↦ (let by = task_by (eqb (length part.body) 24) (task (row_in part.body)) (task row) p.1 in
-      (eqb-true part.kind 2 p.0, eqb-true (length part.body) 24 by.0, same_task (row_in part.body) row by.1))
-]
+task_held_lem part row e =
+    let kind : part.kind ≡ 2 = grind (arith, nat_tests) in
+    let size : length part.body ≡ 24 = grind (arith, nat_tests) in
+    let is : row_in part.body ≡ row = grind (arith, nat_tests) in
+    (kind, size, is)
 
 -- the bytes of a task's record are those that it is written as
 task_bytes_lem : (part : Part) (row : Row) (more : List ℕ) → Below part.body → held_in part ≡ Ok (task row) → task_bytes row ++ more ≡ part_bytes part more
@@ -117,13 +92,13 @@ task_bytes_lem part row more below e =
 
 judged_back : (v : Result (Unit {0}) Told) (p : ℕ) (rest : Result (List Row) Mistake) (all : List Row) → judged v p rest ≡ Ok all → rest ≡ Ok all
 judged_back (Ok x) p rest all e = e
-judged_back (Err told) p rest all e = absurd (let z : ◌≡◌ {A = ℕ} 0 1 = cc in omega arith)
+judged_back (Err told) p rest all e = absurd cc
 
 held_back : (cores : ℕ) (rows all : List Row) (p : ℕ) (x : Result Held Told) (rest : List Row → Result (List Row) Mistake) → grown cores rows (task_held p x) rest ≡ Ok all
     → (row : Row) × (x ≡ Ok (task row)) × (rest (with_row rows row) ≡ Ok all)
-held_back cores rows all p (Ok (platform c b f)) rest e = absurd (let z : ◌≡◌ {A = ℕ} 0 1 = cc in omega arith)
+held_back cores rows all p (Ok (platform c b f)) rest e = absurd cc
 held_back cores rows all p (Ok (task row)) rest e = (row, refl, judged_back (add_verdict cores rows row) p (rest (with_row rows row)) all e)
-held_back cores rows all p (Err told) rest e = absurd (let z : ◌≡◌ {A = ℕ} 0 1 = cc in omega arith)
+held_back cores rows all p (Err told) rest e = absurd cc
 
 -- a record more, or none
 record TaskThere (p : ℕ) (h : Result Part Spot) (rows all : List Row) (next : ℕ → List Row → Result (List Row) Mistake) : Type 0 where
@@ -138,20 +113,11 @@ there_back : (cores p : ℕ) (rows all : List Row) (h : Result Part Spot) (next 
 there_back cores p rows all (Ok part) next e =
     let back = held_back cores rows all part.place (held_in part) (next (p + 3 + length part.body)) e in
     record { part = part; row = back.0; found = refl; holds = back.1; rest = back.2 }
-there_back cores p rows all (Err spot) next e = absurd (let z : ◌≡◌ {A = ℕ} 0 1 = cc in omega arith)
+there_back cores p rows all (Err spot) next e = absurd cc
 
-abbrev Step : ℕ → ℕ → List ℕ → List Row → List Row → Bool → (ℕ → List Row → Result (List Row) Mistake) → Type 0
-Step cores p sheet rows all b next =
-    grown cores rows (task_record (cond b (Ok None) (present (head_of (drop p sheet) p)))) (next (place_after (cond b (Ok None) (present (head_of (drop p sheet) p))) p)) ≡ Ok all
-
-none_back : (cores p : ℕ) (sheet : List ℕ) (rows all : List Row) (b : Bool) (next : ℕ → List Row → Result (List Row) Mistake) → b ≡ true → Step cores p sheet rows all b next → rows ≡ all
-none_back cores p sheet rows all true next is e = cc
-none_back cores p sheet rows all false next is e = absurd (let z : ◌≡◌ {A = ℕ} 0 1 = cc in omega arith)
-
-some_back : (cores p : ℕ) (sheet : List ℕ) (rows all : List Row) (b : Bool) (next : ℕ → List Row → Result (List Row) Mistake) → b ≡ false → Step cores p sheet rows all b next
-    → TaskThere p (head_of (drop p sheet) p) rows all next
-some_back cores p sheet rows all true next is e = absurd (let z : ◌≡◌ {A = ℕ} 0 1 = cc in omega arith)
-some_back cores p sheet rows all false next is e = there_back cores p rows all (head_of (drop p sheet) p) next e
+some_back : (cores : ℕ) (sheet : List ℕ) (p : ℕ) (rows all : List Row) (next : ℕ → List Row → Result (List Row) Mistake) → leb (length sheet) p ≡ false
+    → grown cores rows (task_record (record_at sheet p)) (next (place_after (record_at sheet p) p)) ≡ Ok all → TaskThere p (head_of (drop p sheet) p) rows all next
+some_back cores sheet p rows all next inside e = there_back cores p rows all (head_of (drop p sheet) p) next (rw inside at e)
 
 -- the rows that were read from a place on are written as the bytes from there
 record ReadFrom (sheet : List ℕ) (p : ℕ) (rows all : List Row) : Type 0 where
@@ -165,10 +131,10 @@ rows_back zero cores sheet p rows all below enough e = absurd (omega arith)
 rows_back (suc more) cores sheet p rows all below enough e = elim (cases_Bool (leb (length sheet) p)) [
   | inl past ↦ record {
     read = [];
-    rows_are = sym (none_back cores p sheet rows all (leb (length sheet) p) (rows_from more cores sheet) past e) ∙ sym (append-nil rows);
+    rows_are = let done = rw past at e in let same : all ≡ rows = cc in same ∙ sym (append-nil rows);
     bytes_are = sym (drop_all p sheet (leb-true (length sheet) p past));
   }
-  | inr inside ↦ (let there = some_back cores p sheet rows all (leb (length sheet) p) (rows_from more cores sheet) inside e in
+  | inr inside ↦ (let there = some_back cores sheet p rows all (rows_from more cores sheet) inside e in
       let part = there.part in let row = there.row in
       let front = head_back (drop p sheet) p part (below_drop p sheet below) there.found in
       let next = p + 3 + length part.body in
@@ -186,17 +152,6 @@ rows_back (suc more) cores sheet p rows all below enough e = elim (cases_Bool (l
 
 -- ---- the platform
 
-platform_by : (b : Bool) (v : Result (Unit {0}) Told) (held other : Held) → cond b (if_ok v held) (Err (refusal 3)) ≡ Ok other → (b ≡ true) × (held ≡ other)
-platform_by true (Ok x) held other e = (refl, cc)
-platform_by true (Err told) held other e = absurd (let z : ◌≡◌ {A = ℕ} 0 1 = cc in omega arith)
-platform_by false v held other e = absurd (let z : ◌≡◌ {A = ℕ} 0 1 = cc in omega arith)
-
-task_no_platform : (row : Row) (cores bottom : ℕ) (favours : List ℕ) → task row ≡ platform cores bottom favours → ⊥
-task_no_platform row cores bottom favours e = let z : ◌≡◌ {A = ℕ} 0 1 = cc in omega arith
-
-same_cores : (c b : ℕ) (f : List ℕ) (cores bottom : ℕ) (favours : List ℕ) → platform c b f ≡ platform cores bottom favours → (c ≡ cores) × (b ≡ bottom) × (f ≡ favours)
-same_cores c b f cores bottom favours e = (cc, cc, cc)
-
 platform_body : (body : List ℕ) → 3 ≤ length body → length body ≡ 3 + get_or body 2 0 → body ≡ get_or body 0 0 ∷ get_or body 1 0 ∷ length (drop 3 body) ∷ drop 3 body
 platform_body body long size =
     drop_more body 0 0 (omega arith)
@@ -208,20 +163,13 @@ platform_held : (part : Part) (cores bottom : ℕ) (favours : List ℕ) → held
     → (part.kind ≡ 1) × (part.body ≡ cores ∷ bottom ∷ length favours ∷ favours)
 platform_held part cores bottom favours e =
     let body = part.body in
-    elim (kinds_by (eqb part.kind 1) (eqb part.kind 2) (platform_in body) (task_in body) (platform cores bottom favours) e) [
-      | inl p ↦ (let sized = leb 3 (length body) && eqb (length body) (3 + get_or body 2 0) in
-          let by = platform_by sized (line_verdict (get_or body 1 0) (drop 3 body)) (platform (get_or body 0 0) (get_or body 1 0) (drop 3 body)) (platform cores bottom favours) p.1 in
-          let parts = and_parts (leb 3 (length body)) (eqb (length body) (3 + get_or body 2 0)) by.0 in
-          let is = same_cores (get_or body 0 0) (get_or body 1 0) (drop 3 body) cores bottom favours by.1 in (
-            eqb-true part.kind 1 p.0,
-            platform_body body (leb-true 3 (length body) parts.0) (eqb-true (length body) (3 + get_or body 2 0) parts.1)
-                ∙ ap (λ c. c ∷ get_or body 1 0 ∷ length (drop 3 body) ∷ drop 3 body) is.0
-                ∙ ap (λ b. cores ∷ b ∷ length (drop 3 body) ∷ drop 3 body) is.1
-                ∙ ap (λ f. cores ∷ bottom ∷ length f ∷ f) is.2,
-          ))
-      | inr p ↦ absurd (let by = task_by (eqb (length body) 24) (task (row_in body)) (platform cores bottom favours) p.1 in
-          task_no_platform (row_in body) cores bottom favours by.1)
-    ]
+    let kind : part.kind ≡ 1 = grind (arith, nat_tests) in
+    let long : 3 ≤ length body = grind (arith, nat_tests) in
+    let size : length body ≡ 3 + get_or body 2 0 = grind (arith, nat_tests) in
+    let first : get_or body 0 0 ≡ cores = grind (arith, nat_tests) in
+    let second : get_or body 1 0 ≡ bottom = grind (arith, nat_tests) in
+    let rest : drop 3 body ≡ favours = grind (arith, nat_tests) in
+    (kind, platform_body body long size ∙ cc)
 
 platform_bytes_lem : (part : Part) (cores bottom : ℕ) (favours more : List ℕ) → held_in part ≡ Ok (platform cores bottom favours) → platform_bytes cores bottom favours ++ more ≡ part_bytes part more
 platform_bytes_lem part cores bottom favours more e =
@@ -235,9 +183,9 @@ platform_bytes_lem part cores bottom favours more e =
 
 start_by : (b c : Bool) (sheet : List ℕ) (plan : Spelling) → started (cond b (Err (at 1 0)) (cond c (Ok 1) (Err (at 2 0)))) sheet ≡ Ok plan
     → (b ≡ false) × (c ≡ true) × (headed (head_in 1 (record_at sheet 1)) sheet (place_after (record_at sheet 1) 1) ≡ Ok plan)
-start_by true c sheet plan e = absurd (let z : ◌≡◌ {A = ℕ} 0 1 = cc in omega arith)
+start_by true c sheet plan e = absurd cc
 start_by false true sheet plan e = (refl, refl, e)
-start_by false false sheet plan e = absurd (let z : ◌≡◌ {A = ℕ} 0 1 = cc in omega arith)
+start_by false false sheet plan e = absurd cc
 
 record HeadThere (sheet : List ℕ) (plan : Spelling) (h : Result Part Spot) : Type 0 where
   pub part : Part
@@ -246,35 +194,27 @@ record HeadThere (sheet : List ℕ) (plan : Spelling) (h : Result Part Spot) : T
 
 first_back : (b : Bool) (h : Result Part Spot) (sheet : List ℕ) (plan : Spelling)
     → headed (head_in 1 (cond b (Ok None) (present h))) sheet (place_after (cond b (Ok None) (present h)) 1) ≡ Ok plan → HeadThere sheet plan h
-first_back true h sheet plan e = absurd (let z : ◌≡◌ {A = ℕ} 0 1 = cc in omega arith)
+first_back true h sheet plan e = absurd cc
 first_back false (Ok part) sheet plan e = record { part = part; found = refl; rest = e }
-first_back false (Err spot) sheet plan e = absurd (let z : ◌≡◌ {A = ℕ} 0 1 = cc in omega arith)
+first_back false (Err spot) sheet plan e = absurd cc
 
 record PlanThere (sheet : List ℕ) (p : ℕ) (plan : Spelling) (x : Result Held Told) : Type 0 where
   pub holds : x ≡ Ok (platform plan.cores plan.bottom plan.favours)
   pub rest : rows_from (suc (length sheet)) plan.cores sheet p [] ≡ Ok plan.rows
 
-rowed : (head : Head) (x : Result (List Row) Mistake) (plan : Spelling) → with_rows head x ≡ Ok plan
-    → (head.cores ≡ plan.cores) × (head.bottom ≡ plan.bottom) × (head.favours ≡ plan.favours) × (x ≡ Ok plan.rows)
-rowed head (Ok rows) plan e =
-    let is : record { cores = head.cores; bottom = head.bottom; favours = head.favours; rows = rows } ≡ plan = cc in
-    (ap (λ s. s.cores) is, ap (λ s. s.bottom) is, ap (λ s. s.favours) is, ap (λ s. Ok s.rows) is)
-rowed head (Err mistake) plan e = absurd (let z : ◌≡◌ {A = ℕ} 0 1 = cc in omega arith)
-
-planned_back : (q p : ℕ) (cores bottom : ℕ) (favours : List ℕ) (v : Result (Unit {0}) Told) (sheet : List ℕ) (plan : Spelling)
-    → planned_by (record { place = q; cores = cores; bottom = bottom; favours = favours }) v sheet p ≡ Ok plan → PlanThere sheet p plan (Ok (platform cores bottom favours))
-planned_back q p cores bottom favours (Ok x) sheet plan e =
-    let is = rowed (record { place = q; cores = cores; bottom = bottom; favours = favours }) (rows_from (suc (length sheet)) cores sheet p []) plan e in
-    record {
-      holds = ap (λ c. Ok (platform c bottom favours)) is.0 ∙ ap (λ b. Ok (platform plan.cores b favours)) is.1 ∙ ap (λ f. Ok (platform plan.cores plan.bottom f)) is.2;
-      rest = ap (λ c. rows_from (suc (length sheet)) c sheet p []) (sym is.0) ∙ is.3;
-    }
-planned_back q p cores bottom favours (Err told) sheet plan e = absurd (let z : ◌≡◌ {A = ℕ} 0 1 = cc in omega arith)
+planned_back : (head : Head) (p : ℕ) (v : Result (Unit {0}) Told) (rows : Result (List Row) Mistake) (sheet : List ℕ) (plan : Spelling) → rows ≡ rows_from (suc (length sheet)) head.cores sheet p []
+    → planned_by head v sheet p ≡ Ok plan → PlanThere sheet p plan (Ok (platform head.cores head.bottom head.favours))
+planned_back head p (Ok x) (Ok rows) sheet plan are e =
+    let is : record { cores = head.cores; bottom = head.bottom; favours = head.favours; rows = rows } ≡ plan = (let said = rw (← are) at e in cc) in
+    subst (λ s. PlanThere sheet p s (Ok (platform head.cores head.bottom head.favours))) is (record { holds = refl; rest = sym are })
+planned_back head p (Ok x) (Err mistake) sheet plan are e = absurd (let said = rw (← are) at e in cc)
+planned_back head p (Err told) rows sheet plan are e = absurd cc
 
 held_there : (q p : ℕ) (x : Result Held Told) (sheet : List ℕ) (plan : Spelling) → headed (head_held q x) sheet p ≡ Ok plan → PlanThere sheet p plan x
-held_there q p (Ok (platform cores bottom favours)) sheet plan e = planned_back q p cores bottom favours (cores_verdict cores favours) sheet plan e
-held_there q p (Ok (task row)) sheet plan e = absurd (let z : ◌≡◌ {A = ℕ} 0 1 = cc in omega arith)
-held_there q p (Err told) sheet plan e = absurd (let z : ◌≡◌ {A = ℕ} 0 1 = cc in omega arith)
+held_there q p (Ok (platform cores bottom favours)) sheet plan e =
+    planned_back (record { place = q; cores = cores; bottom = bottom; favours = favours }) p (cores_verdict cores favours) (rows_from (suc (length sheet)) cores sheet p []) sheet plan refl e
+held_there q p (Ok (task row)) sheet plan e = absurd cc
+held_there q p (Err told) sheet plan e = absurd cc
 
 pub saved_again : ALoadedSheetIsSavedAsTheSameBytes
 saved_again bytes plan are e =

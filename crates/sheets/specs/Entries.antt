@@ -1,11 +1,12 @@
 -- What a record holds: a platform (kind 1) or a task (kind 2). Assumes nothing.
-use Rattle.std.specs.Prelude.{ℕ, ◌+◌, cond, ◌&&◌, List, length, drop, Ok, Err, Result, ◌==◌, nat_le, slice_index}
+use Rattle.std.specs.Prelude.{ℕ, ◌+◌, Bool, cond, ◌&&◌, ◌||◌, List, length, drop, Ok, Err, Result, ◌==◌, nat_le, slice_index}
 use Rattle.tasks.specs.declared.task.Row.{Row}
 use Rattle.tasks.specs.Platforms.{bottom_number, favoured, line_verdict}
-use Rattle.tasks.specs.Refusals.{Told, told, refusal}
+use Rattle.tasks.specs.Refusals.{Told, refusal}
 use Rattle.sheets.specs.declared.entry.Entry.{Entry}
 use Rattle.sheets.specs.declared.entry.Entry.TheVariants.{Platform, Task}
-use Rattle.sheets.specs.declared.entry.BadRecord.{BadRecord}
+use Rattle.sheets.specs.declared.entry.Kind.{Kind}
+use Rattle.sheets.specs.declared.entry.Kind.TheVariants.{Platform as PlatformKind, Task as TaskKind}
 use Rattle.sheets.specs.Bytes.{two, four}
 use Rattle.sheets.specs.Records.{Part, Spot}
 
@@ -44,10 +45,23 @@ task_in body = cond (length body == 24) (Ok (task (row_in body))) (Err (refusal 
 abbrev pub held_in : Part → Result Held Told
 held_in part = cond (part.kind == 1) (platform_in part.body) (cond (part.kind == 2) (task_in part.body) (Err (refusal 3)))
 
+-- the same, with the place of the record that earns a refusal
+abbrev pub placed_at : ℕ → Result Held Told → Result Held Spot
+placed_at p (Ok held) = Ok held
+placed_at p (Err told) = Err (record { told = told; place = p })
+
+abbrev pub entry_in : Part → Result Held Spot
+entry_in part = placed_at part.place (held_in part)
+
+-- the numbers of the kinds that are known
+abbrev pub kind_number : Kind → ℕ
+kind_number PlatformKind = 1
+kind_number TaskKind = 2
+
+abbrev pub is_kind : ℕ → Bool
+is_kind number = number == 1 || number == 2
+
 -- what the code answers, in these words
 abbrev pub held : Entry → Held
 held (Platform cores line) = platform cores (bottom_number line.bottom) (favoured line.favours)
 held (Task row) = task row
-
-abbrev pub bad_spot : BadRecord → Spot
-bad_spot bad = record { told = told bad.refusal; place = bad.place }

@@ -1,7 +1,9 @@
 -- What stands at a place of a sheet: two length bytes, the kind byte and the body; the length counts kind and body. Assumes nothing.
 use Rattle.std.specs.Prelude.{ℕ, ◌+◌, ◌-◌, cond, List, length, take, drop, Some, None, Ok, Err, Option, Result, ◌==◌, nat_le, nat_lt, slice_index}
+use Rattle.tasks.specs.declared.refusal.Refusal.{Refusal}
 use Rattle.tasks.specs.Refusals.{Told, told, refusal}
-use Rattle.sheets.specs.declared.reader.Misread.{Misread}
+use Rattle.sheets.specs.declared.placed.Placed.{Placed}
+use Rattle.sheets.specs.declared.reader.Reader.{Reader}
 use Rattle.sheets.specs.declared.reader.Record.{Record}
 use Rattle.sheets.specs.Bytes.{two}
 
@@ -45,18 +47,25 @@ place_after (Err spot) p = p
 abbrev pub start_of : List ℕ → Result ℕ Spot
 start_of sheet = cond (length sheet == 0) (Err (at 1 0)) (cond (slice_index sheet 0 == 1) (Ok 1) (Err (at 2 0)))
 
+-- the record that is due where a reader stands, and the reader past it
+abbrev pub due : Reader → Result (Option Part) Spot
+due reader = record_at reader.sheet.now reader.place
+
+abbrev pub past : Reader → Reader
+past reader = record { sheet = reader.sheet; place = place_after (due reader) reader.place }
+
 -- what the code answers, in these words
-abbrev pub spot : Misread → Spot
-spot misread = record { told = told misread.refusal; place = misread.place }
+abbrev pub spot : Placed Refusal → Spot
+spot bad = record { told = told bad.what; place = bad.place }
 
 abbrev pub part : Record → Part
 part found = record { place = found.place; kind = found.kind; body = found.body.now }
 
-abbrev pub shown : Result Record Misread → Result Part Spot
+abbrev pub shown : Result Record (Placed Refusal) → Result Part Spot
 shown (Ok found) = Ok (part found)
-shown (Err misread) = Err (spot misread)
+shown (Err bad) = Err (spot bad)
 
-abbrev pub seen : Result (Option Record) Misread → Result (Option Part) Spot
+abbrev pub seen : Result (Option Record) (Placed Refusal) → Result (Option Part) Spot
 seen (Ok None) = Ok None
 seen (Ok (Some found)) = Ok (Some (part found))
-seen (Err misread) = Err (spot misread)
+seen (Err bad) = Err (spot bad)

@@ -1,9 +1,10 @@
 -- The plan that a sheet spells, or the fault with its number, its layer and its place. Assumes nothing.
-use Rattle.std.specs.Prelude.{ℕ, zero, suc, List, [], length, Some, None, Ok, Err, Option, Result}
+use Rattle.std.specs.Prelude.{ℕ, zero, suc, List, [], ◌++◌, length, codes, decimal, Some, None, Ok, Err, Option, Result}
 use Rattle.tasks.specs.declared.task.Row.{Row}
 use Rattle.tasks.specs.Platforms.{cores_verdict}
-use Rattle.tasks.specs.Refusals.{Told}
+use Rattle.tasks.specs.Refusals.{Told, numbered, no_memory}
 use Rattle.rules.specs.Rules.{add_verdict, with_row}
+use Rattle.sheets.specs.declared.placed.Placed.{Placed}
 use Rattle.sheets.specs.declared.plan.Layer.{Layer}
 use Rattle.sheets.specs.declared.plan.Layer.TheVariants.{Sheet, Plan}
 use Rattle.sheets.specs.Records.{Part, Spot, at, record_at, place_after, start_of}
@@ -29,18 +30,14 @@ head_in p (Ok None) = Err (at 1 p)
 head_in p (Ok (Some part)) = head_held part.place (held_in part)
 head_in p (Err spot) = Err spot
 
--- a task, with the place of its record
-pub record Placed : Type 0 where
-  pub place : ℕ
-  pub row : Row
-
-abbrev pub task_held : ℕ → Result Held Told → Result (Option Placed) Spot
+-- a task is told with the place of its record
+abbrev pub task_held : ℕ → Result Held Told → Result (Option (Placed Row)) Spot
 task_held p (Ok (platform cores bottom favours)) = Err (at 4 p)
-task_held p (Ok (task row)) = Ok (Some (record { place = p; row = row }))
+task_held p (Ok (task row)) = Ok (Some (record { place = p; what = row }))
 task_held p (Err told) = Err (record { told = told; place = p })
 
 -- every later record is a task
-abbrev pub task_record : Result (Option Part) Spot → Result (Option Placed) Spot
+abbrev pub task_record : Result (Option Part) Spot → Result (Option (Placed Row)) Spot
 task_record (Ok None) = Ok None
 task_record (Ok (Some part)) = task_held part.place (held_in part)
 task_record (Err spot) = Err spot
@@ -59,14 +56,22 @@ sheet_fault spot = record { told = spot.told; layer = Sheet; place = spot.place 
 abbrev pub plan_fault : Told → ℕ → Mistake
 plan_fault told p = record { told = told; layer = Plan; place = p }
 
+-- how it is printed
+abbrev pub mistake_text : Mistake → List ℕ
+mistake_text mistake = text mistake.told mistake.place
+  where
+    text : Told → ℕ → List ℕ
+    text (numbered n values) place = codes "refused " ++ (decimal n ++ (codes " at " ++ decimal place))
+    text no_memory place = codes "no memory"
+
 -- what comes of one more task record: it is judged as an add to those before it, and the rest goes on with it
 abbrev pub judged : Result (Unit {0}) Told → ℕ → Result (List Row) Mistake → Result (List Row) Mistake
 judged (Ok x) p rest = rest
 judged (Err told) p rest = Err (plan_fault told p)
 
-abbrev pub grown : ℕ → List Row → Result (Option Placed) Spot → (List Row → Result (List Row) Mistake) → Result (List Row) Mistake
+abbrev pub grown : ℕ → List Row → Result (Option (Placed Row)) Spot → (List Row → Result (List Row) Mistake) → Result (List Row) Mistake
 grown cores rows (Ok None) rest = Ok rows
-grown cores rows (Ok (Some placed)) rest = judged (add_verdict cores rows placed.row) placed.place (rest (with_row rows placed.row))
+grown cores rows (Ok (Some placed)) rest = judged (add_verdict cores rows placed.what) placed.place (rest (with_row rows placed.what))
 grown cores rows (Err spot) rest = Err (sheet_fault spot)
 
 -- the rows of the records from a place on, after those that are there; the first number bounds how many records are looked at

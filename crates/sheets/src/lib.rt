@@ -3,6 +3,7 @@
 
 pub mod entry;
 pub mod order;
+pub mod placed;
 pub mod plan;
 pub mod reader;
 pub mod theorems;

@@ -1,4 +1,9 @@
 // The plan that a sheet spells: the plan layer.
+ghost use Rattle.std.specs.Prelude.{Some};
+ghost use Rattle.sheets.specs.Spelled.{mistake_text};
+ghost use Rattle.sheets.specs.Answers.{mistake};
+
+use std::fmt;
 use tasks::refusal::Refusal;
 
 pub mod load;
@@ -16,4 +21,17 @@ pub struct Fault {
     pub refusal: Refusal,
     pub layer: Layer,
     pub place: usize,
+}
+
+// A fault is told as `refused` with its number, and the place of the record.
+impl fmt::Display for Fault {
+    ghost output = { λ fault. Some (mistake_text (mistake fault)) };
+
+    fn fmt<W: fmt::Write>(&self, f: &mut fmt::Formatter<W>) -> fmt::Result {
+        let place = self.place;
+        match self.refusal.number() {
+            Some(number) => write!(f, "refused {number} at {place}"),
+            None => f.write_str("no memory"),
+        }
+    }
 }

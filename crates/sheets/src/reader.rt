@@ -1,8 +1,6 @@
 // Reading a sheet in place: the byte layer.
 ghost use Rattle.std.specs.Prelude.{◌≡◌};
 
-use tasks::refusal::Refusal;
-
 pub mod steps;
 
 // A reader holds the sheet, and the place of the next record.
@@ -25,13 +23,7 @@ impl<'a> Reader<'a> {
 #[derive(Clone, Copy)]
 pub struct Record<'a> {
     pub place: usize,
+    // as it stands in the sheet: what kinds there are is for the record layer
     pub kind: u8,
     pub body: &'a [u8],
-}
-
-// A sheet that cannot be read on: why, and the place of the record where it is so.
-#[derive(Clone, Copy, Debug)]
-pub struct Misread {
-    pub refusal: Refusal,
-    pub place: usize,
 }

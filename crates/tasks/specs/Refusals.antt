@@ -1,5 +1,5 @@
 -- What a refusal tells: the number of the table and the values that come with it. Contracts speak of these numbers. Assumes nothing.
-use Rattle.std.specs.Prelude.{ℕ, List, [], ◌∷◌, Some, None, Ok, Err, Option, Result}
+use Rattle.std.specs.Prelude.{ℕ, List, [], ◌∷◌, ◌++◌, Some, None, Ok, Err, Option, Result, codes, decimal}
 use Rattle.tasks.specs.declared.refusal.Refusal.{Refusal}
 use Rattle.tasks.specs.declared.refusal.Refusal.TheVariants.{Short, Version, Kind, Place, Narrow, Core, Known, Unknown, Full, Rank, Length, Times, Edited, Ports, Twice, NoneWaits, Busy, Idle, Script, Memory}
 
@@ -38,6 +38,11 @@ told Memory = no_memory
 abbrev pub number_of : Told → Option ℕ
 number_of (numbered n values) = Some n
 number_of no_memory = None
+
+-- how it is printed
+abbrev pub refusal_text : Told → List ℕ
+refusal_text (numbered n values) = codes "refused " ++ decimal n
+refusal_text no_memory = codes "no memory"
 
 -- what a call answered, with the number in place of the refusal
 abbrev pub answer : {X : Type 0} → Result X Refusal → Result X Told

@@ -1,9 +1,3 @@
-// How many phases of one port an arbiter may put before a waiting phase of another.
-
-#[derive(Clone, Copy, PartialEq, Eq, Debug)]
-pub enum Limit {
-    // at most so many; an arbiter's limits are 1 to 255
-    Phases(u16),
-    // above every number
-    Unlimited,
-}
+// How many phases of one port an arbiter may put before a waiting phase of another: at most so many, and an arbiter's
+// limits are 1 to 255. None: there is no limit, which is above every number.
+pub type Limit = Option<u16>;

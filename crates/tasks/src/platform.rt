@@ -28,24 +28,44 @@ pub struct BusLine {
 }
 
 // 1 is the queue, 2 round robin.
-fn bottom_of(number: u8) -> Result<Bottom, Refusal>
-    ensures { MatchResult result (λ b. (bottom_number b ≡ number) × (is_bottom number ≡ true)) (λ e. (told e ≡ refusal 3) × (is_bottom number ≡ false)) }
-{
-    match number {
-        1 => Ok(Bottom::Queue),
-        2 => Ok(Bottom::RoundRobin),
-        _ => Err(Refusal::Kind),
+impl TryFrom<u8> for Bottom {
+    type Error = Refusal;
+
+    ghost try_from_gives = { λ number r. MatchResult r (λ b. (bottom_number b ≡ number) × (is_bottom number ≡ true)) (λ e. (told e ≡ refusal 3) × (is_bottom number ≡ false)) };
+
+    fn try_from(number: u8) -> Result<Bottom, Refusal> {
+        match number {
+            1 => Ok(Bottom::Queue),
+            2 => Ok(Bottom::RoundRobin),
+            _ => Err(Refusal::Kind),
+        }
     }
 }
 
-fn favours_of(ports: &[u8]) -> Result<Favours, Refusal>
-    ensures { MatchResult result (λ f. (favoured f ≡ ports.now) × (length ports.now ≤ 2)) (λ e. (told e ≡ refusal 3) × (2 < length ports.now)) }
-{
-    match ports {
-        [] => Ok(Favours::Nobody),
-        [outer] => Ok(Favours::One(*outer)),
-        [outer, inner] => Ok(Favours::Two(*outer, *inner)),
-        _ => Err(Refusal::Kind),
+impl From<Bottom> for u8 {
+    ghost from_gives = { λ bottom number. number ≡ bottom_number bottom };
+
+    fn from(bottom: Bottom) -> u8 {
+        match bottom {
+            Bottom::Queue => 1,
+            Bottom::RoundRobin => 2,
+        }
+    }
+}
+
+// At most two ports, the outermost first.
+impl TryFrom<&[u8]> for Favours {
+    type Error = Refusal;
+
+    ghost try_from_gives = { λ ports r. MatchResult r (λ f. (favoured f ≡ ports.now) × (length ports.now ≤ 2)) (λ e. (told e ≡ refusal 3) × (2 < length ports.now)) };
+
+    fn try_from(ports: &[u8]) -> Result<Favours, Refusal> {
+        match ports {
+            [] => Ok(Favours::Nobody),
+            [outer] => Ok(Favours::One(*outer)),
+            [outer, inner] => Ok(Favours::Two(*outer, *inner)),
+            _ => Err(Refusal::Kind),
+        }
     }
 }
 
@@ -55,8 +75,8 @@ impl BusLine {
         ensures { MatchResult result (λ line. (line_verdict bottom favours.now ≡ Ok tt) × (bottom_number line.bottom ≡ bottom) × (favoured line.favours ≡ favours.now)) (λ e. line_verdict bottom favours.now ≡ Err (told e)) }
     {
         Ok(BusLine {
-            bottom: bottom_of(bottom)?,
-            favours: favours_of(favours)?,
+            bottom: Bottom::try_from(bottom)?,
+            favours: Favours::try_from(favours)?,
         })
     }
 }

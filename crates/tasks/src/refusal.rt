@@ -1,6 +1,9 @@
 // Why a call is turned down. A refused call changes nothing.
-ghost use Rattle.std.specs.Prelude.{◌≡◌};
-ghost use Rattle.tasks.specs.Refusals.{told, number_of};
+ghost use Rattle.std.specs.Prelude.{◌≡◌, Some};
+ghost use Rattle.tasks.specs.Refusals.{told, no_memory, number_of, refusal_text};
+
+use std::alloc::AllocError;
+use std::fmt;
 
 #[derive(Clone, Copy, PartialEq, Eq, Debug)]
 pub enum Refusal {
@@ -47,7 +50,7 @@ pub enum Refusal {
 }
 
 impl Refusal {
-    // The number that the table gives this refusal; want of memory has none.
+    // The number that the table gives this refusal; want of memory has none. Written out, since a case with a value has no number by itself.
     pub fn number(self) -> Option<u8>
         ensures { result ≡ number_of (told self) }
     {
@@ -73,5 +76,25 @@ impl Refusal {
             Refusal::Script(_) => Some(19),
             Refusal::Memory => None,
         }
+    }
+}
+
+// A number is told as `refused` with it.
+impl fmt::Display for Refusal {
+    ghost output = { λ e. Some (refusal_text (told e)) };
+
+    fn fmt<W: fmt::Write>(&self, f: &mut fmt::Formatter<W>) -> fmt::Result {
+        match self.number() {
+            Some(number) => write!(f, "refused {number}"),
+            None => f.write_str("no memory"),
+        }
+    }
+}
+
+impl From<AllocError> for Refusal {
+    ghost from_gives = { λ _ e. told e ≡ no_memory };
+
+    fn from(_: AllocError) -> Refusal {
+        Self::Memory
     }
 }

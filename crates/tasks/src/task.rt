@@ -38,11 +38,13 @@ pub struct Task {
     ghost bounded: { row.spacing ≤ 10000000 },
 }
 
-impl Task {
-    // The task of a row, or the topmost refusal that the row alone earns.
-    pub fn new(row: Row) -> Result<Task, Refusal>
-        ensures { MatchResult result (λ task. (row_verdict row ≡ Ok tt) × (task.row ≡ row)) (λ e. row_verdict row ≡ Err (told e)) }
-    {
+// The task of a row, or the topmost refusal that the row alone earns.
+impl TryFrom<Row> for Task {
+    type Error = Refusal;
+
+    ghost try_from_gives = { λ row r. MatchResult r (λ task. (row_verdict row ≡ Ok tt) × (task.row ≡ row)) (λ e. row_verdict row ≡ Err (told e)) };
+
+    fn try_from(row: Row) -> Result<Task, Refusal> {
         if row.rank == 0 {
             return Err(Refusal::Rank);
         }
@@ -55,7 +57,9 @@ impl Task {
         }
         Ok(Task { row })
     }
+}
 
+impl Task {
     // C, the ticks that a job of this task takes at most when it never waits.
     pub fn cost(&self) -> u32
         ensures { result ≡ self.now.row.a + self.now.row.e + self.now.row.r }

@@ -1,59 +1,55 @@
 // What was settled, as lines of text.
-ghost use Rattle.std.specs.Prelude.{◌≡◌, ◌+◌, ◌≤◌, ◌++◌, length, vec_len, vec_capacity, codes};
+ghost use Rattle.std.specs.Prelude.{◌≡◌, ◌+◌, ◌≤◌, ◌++◌, length};
 ghost use Rattle.writing.specs.Lines.{outcome_text, line, printed};
 
-use crate::digits::add_number;
-use crate::text::add;
+use crate::text::Text;
 use demand::late::late_count;
 use tasks::outcome::Outcome;
 use tasks::task::Row;
 
 // `window` or `late`, and the number.
-fn add_outcome(text: &mut Vec<u8>, outcome: Outcome)
-    requires { vec_len text.old + 28 ≤ vec_capacity text.old }
-    ensures items { text.new.items ≡ text.old.items ++ outcome_text outcome }
-    ensures len { vec_len text.new ≤ vec_len text.old + 28 }
-    ensures room { vec_capacity text.old ≤ vec_capacity text.new }
+fn add_outcome<const ROOM: usize>(text: &mut Text<ROOM>, outcome: Outcome)
+    requires { length text.old + 28 ≤ ROOM }
+    ensures items { text.new ≡ text.old ++ outcome_text outcome }
+    ensures len { length text.new ≤ length text.old + 28 }
 {
     match outcome {
         Outcome::Window(ticks) => {
-            add(text, b" window ");
-            add_number(text, ticks);
+            text.add(b" window ");
+            text.add_number(ticks);
         }
         Outcome::Late(ticks) => {
-            add(text, b" late ");
-            add_number(text, ticks);
+            text.add(b" late ");
+            text.add_number(ticks);
         }
     }
 }
 
 // One task: its id, its core, and its outcome.
-fn add_line(text: &mut Vec<u8>, row: Row, outcome: Outcome)
-    requires { vec_len text.old + 70 ≤ vec_capacity text.old }
-    ensures items { text.new.items ≡ text.old.items ++ line row outcome }
-    ensures len { vec_len text.new ≤ vec_len text.old + 70 }
-    ensures room { vec_capacity text.old ≤ vec_capacity text.new }
+fn add_line<const ROOM: usize>(text: &mut Text<ROOM>, row: Row, outcome: Outcome)
+    requires { length text.old + 70 ≤ ROOM }
+    ensures items { text.new ≡ text.old ++ line row outcome }
+    ensures len { length text.new ≤ length text.old + 70 }
 {
-    add_number(text, u64::from(row.id));
-    add(text, b" ");
-    add_number(text, u64::from(row.core));
+    text.add_number(u64::from(row.id));
+    text.add(b" ");
+    text.add_number(u64::from(row.core));
     add_outcome(text, outcome);
-    add(text, b"\n");
+    text.add(b"\n");
 }
 
 // A line for each task, in plan order, and a last line with the number of late ones, in place of what the text held.
-pub fn printed_text(text: &mut Vec<u8>, rows: &[Row], outcomes: &[Outcome])
+pub fn printed_text<const ROOM: usize>(text: &mut Text<ROOM>, rows: &[Row], outcomes: &[Outcome])
     requires few { length rows.now ≤ 64 }
     requires all { length outcomes.now ≡ length rows.now }
-    requires room { 8192 ≤ vec_capacity text.old }
-    ensures items { text.new.items ≡ printed rows.now outcomes.now }
-    ensures room { vec_capacity text.old ≤ vec_capacity text.new }
+    requires room { 8192 ≤ ROOM }
+    ensures { text.new ≡ printed rows.now outcomes.now }
 {
     text.clear();
-    for i in 0..rows.len() {
-        add_line(text, rows[i], outcomes[i]);
+    for (row, outcome) in rows.iter().zip(outcomes) {
+        add_line(text, *row, *outcome);
     }
-    add(text, b"late ");
-    add_number(text, late_count(outcomes) as u64);
-    add(text, b"\n");
+    text.add(b"late ");
+    text.add_number(late_count(outcomes) as u64);
+    text.add(b"\n");
 }

@@ -27,11 +27,12 @@ impl Offer {
     }
 
     // How many of these phases can be in the way within w ticks: one for each job.
+    #[tactic(auto, using(crate::proofs::Ceiling::ceil_is))]
     pub fn many(&self, w: u32) -> u64
         ensures value { result ≡ ceil (w + self.now.deadline) self.now.spacing }
         ensures bound { result ≤ w + 20000000 }
     {
-        let spacing = u64::from(self.spacing);
-        (u64::from(w) + u64::from(self.deadline) + (spacing - 1)) / spacing
+        let ticks = u64::from(w) + u64::from(self.deadline);
+        ticks.div_ceil(u64::from(self.spacing))
     }
 }

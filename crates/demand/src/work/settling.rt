@@ -35,7 +35,7 @@ impl Work {
         self.tasks.clear();
         self.offers.clear();
         for (place, row) in rows.iter().enumerate() {
-            let Ok(task) = Task::new(*row) else {
+            let Ok(task) = Task::try_from(*row) else {
                 unreachable()
             };
             self.tasks.push_reserved(task);

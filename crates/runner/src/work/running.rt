@@ -1,15 +1,12 @@
 // Runs a script.
-ghost use Rattle.std.specs.Prelude.{◌≡◌, ℕ, ◌<◌, ◌≤◌, length, MatchResult};
+ghost use Rattle.std.specs.Prelude.{◌≡◌, ◌≤◌, length, MatchResult};
 ghost use Rattle.argument.specs.Plans.{plan_of, SoundPlan};
 ghost use Rattle.runner.specs.Outcomes.{Accepted, Refused};
 
 use crate::lookup::look_up;
-use crate::open::{idle_stages, open};
 use crate::work::RunWork;
 use bus::arbiter::Arbiter;
-use roster::Roster;
-use runs::drive::drive;
-use runs::ready::Ready;
+use runs::progress::Progress;
 use runs::rows::{LogRow, ScriptRow};
 use std::alloc::{AllocError, Global};
 use tasks::refusal::Refusal;
@@ -19,8 +16,7 @@ impl RunWork {
     // Room for any script that may be run.
     pub fn new(heap: Global) -> Result<RunWork, AllocError> {
         Ok(RunWork {
-            jobs: Vec::with_capacity(heap, 1024)?,
-            ready: Roster::with_capacity(heap, 1024)?,
+            progress: Progress::new(heap)?,
         })
     }
 
@@ -49,21 +45,10 @@ impl RunWork {
         if !arb.idle() {
             return Err(Refusal::Busy);
         }
-        if let Some(k) = look_up(rows, script, &mut self.jobs) {
-            return Err(Refusal::Script(k));
-        }
-        self.ready.clear();
-        let mut stages = idle_stages();
-        open(self.jobs.as_slice(), &mut log[..count]);
-        drive(
-            rows,
-            self.jobs.as_slice(),
-            cores,
-            &mut stages[..usize::from(cores)],
-            &mut self.ready,
-            &mut log[..count],
-            arb,
-        )?;
+        look_up(rows, script, &mut self.progress)?;
+        let written = &mut log[..count];
+        self.progress.open(cores, written);
+        self.progress.drive(written, arb)?;
         Ok(count)
     }
 }

@@ -1,5 +1,5 @@
-// Making a plan, and editing it. An accepted edit takes away what was settled; a refused one changes nothing.
-ghost use Rattle.std.specs.Prelude.{◌≡◌, true, ◌⊎◌, IfOk, Ok, Err, vec_len, MatchResult};
+// Opening a plan, and its edits. An accepted edit takes away what was settled: each says so in a line, where a closure would take two.
+ghost use Rattle.std.specs.Prelude.{◌≡◌, true, ◌⊎◌, Ok, Err, IfOk, MatchResult};
 ghost use Rattle.tasks.specs.Platforms.{cores_fit, bottom_number, favoured};
 ghost use Rattle.tasks.specs.Refusals.{told, answer, no_memory};
 ghost use Rattle.rules.specs.Rules.{open_verdict, add_verdict, remove_verdict, change_verdict, with_row, without, replaced};
@@ -7,12 +7,13 @@ ghost use Rattle.settler.specs.Contents.{content, empty, edited};
 
 use crate::plan::Plan;
 use demand::work::Work;
-use rules::judge::{MOST_TASKS, judge_add, judge_change};
-use rules::lookup::place_of;
+use rules::judge::MOST_TASKS;
+use rules::table::Table;
 use std::alloc::{AllocError, Global};
 use tasks::platform::{BusLine, Platform};
 use tasks::refusal::Refusal;
 use tasks::task::Row;
+use writing::text::Text;
 
 impl Plan {
     // An empty plan. It reserves what every later call on the plan needs, so only this call may answer want of memory.
@@ -21,20 +22,14 @@ impl Plan {
     {
         let line = BusLine::new(bottom, favours)?;
         let platform = Platform::new(cores, line)?;
-        match reserved(heap, platform) {
-            Ok(plan) => Ok(plan),
-            Err(AllocError) => Err(Refusal::Memory),
-        }
+        Ok(reserved(heap, platform)?)
     }
 
     // Its cores and its bus line.
     pub fn platform(&self) -> Platform
         ensures { (result.cores ≡ (content self.now).cores) × (bottom_number result.line.bottom ≡ (content self.now).bottom) × (favoured result.line.favours ≡ (content self.now).favours) × (cores_fit result.cores (favoured result.line.favours) ≡ true) }
     {
-        Platform {
-            cores: self.platform.cores,
-            line: self.platform.line,
-        }
+        self.table.platform()
     }
 
     // A new task, after those that are there: 6, 7, 9, 10, 11, 12.
@@ -42,8 +37,7 @@ impl Plan {
         ensures answer { answer result ≡ add_verdict (content self.old).cores (content self.old).rows row }
         ensures content { content self.new ≡ edited result (content self.old) (with_row (content self.old).rows row) }
     {
-        judge_add(self.platform.cores, self.rows.as_slice(), row)?;
-        self.rows.push_reserved(row);
+        self.table.add(row)?;
         self.settled = false;
         Ok(())
     }
@@ -53,10 +47,7 @@ impl Plan {
         ensures answer { answer result ≡ remove_verdict (content self.old).rows id }
         ensures content { content self.new ≡ edited result (content self.old) (without (content self.old).rows id) }
     {
-        let Some(i) = place_of(self.rows.as_slice(), id) else {
-            return Err(Refusal::Unknown);
-        };
-        self.rows.remove(i);
+        self.table.remove(id)?;
         self.settled = false;
         Ok(())
     }
@@ -66,8 +57,7 @@ impl Plan {
         ensures answer { answer result ≡ change_verdict (content self.old).cores (content self.old).rows row }
         ensures content { content self.new ≡ edited result (content self.old) (replaced (content self.old).rows row) }
     {
-        let i = judge_change(self.platform.cores, self.rows.as_slice(), row)?;
-        self.rows[i] = row;
+        self.table.change(row)?;
         self.settled = false;
         Ok(())
     }
@@ -79,12 +69,11 @@ fn reserved(heap: Global, platform: Platform) -> Result<Plan, AllocError>
     ensures { IfOk result (λ plan. content plan ≡ empty platform.cores (bottom_number platform.line.bottom) (favoured platform.line.favours)) }
 {
     Ok(Plan {
-        platform,
-        rows: Vec::with_capacity(heap, MOST_TASKS)?,
+        table: Table::new(heap, platform)?,
         outcomes: Vec::with_capacity(heap, MOST_TASKS)?,
         settled: false,
         work: Work::new(heap)?,
-        spare: Vec::with_capacity(heap, MOST_TASKS)?,
-        text: Vec::with_capacity(heap, 8192)?,
+        spare: Table::new(heap, platform)?,
+        text: Text::with_room(heap)?,
     })
 }

@@ -6,7 +6,6 @@ ghost use Rattle.settler.specs.Settling.{settle_verdict, SettledTo, window_answe
 
 use crate::plan::Plan;
 use bus::arbiter::Arbiter;
-use rules::lookup::place_of;
 use tasks::outcome::Outcome;
 use tasks::refusal::Refusal;
 
@@ -15,12 +14,12 @@ impl Plan {
     pub fn settle<B: Arbiter>(&mut self, arbiter: &B) -> Result<usize, Refusal>
         ensures { MatchResult result (λ late. (settle_verdict (content self.old).cores (B.Arbiter.means.meaning arbiter.now).ports ≡ Ok tt) × SettledTo (content self.old) (B.Arbiter.means.meaning arbiter.now).limit late (content self.new)) (λ e. (settle_verdict (content self.old).cores (B.Arbiter.means.meaning arbiter.now).ports ≡ Err (told e)) × (content self.new ≡ content self.old)) }
     {
-        if arbiter.ports() != self.platform.cores {
+        if arbiter.ports() != self.table.platform().cores {
             return Err(Refusal::Ports);
         }
         let late = self
             .work
-            .settle(self.rows.as_slice(), arbiter, &mut self.outcomes);
+            .settle(self.table.rows(), arbiter, &mut self.outcomes);
         self.settled = true;
         Ok(late)
     }
@@ -29,12 +28,10 @@ impl Plan {
     pub fn window(&self, id: u16) -> Result<Outcome, Refusal>
         ensures { answer result ≡ window_answer (content self.now) id }
     {
-        let Some(i) = place_of(self.rows.as_slice(), id) else {
-            return Err(Refusal::Unknown);
-        };
+        let place = self.table.place_of(id).ok_or(Refusal::Unknown)?;
         if !self.settled {
             return Err(Refusal::Edited);
         }
-        Ok(self.outcomes[i])
+        Ok(self.outcomes[place])
     }
 }

@@ -21,9 +21,8 @@ impl Plan {
         ensures answer { load_answer result ≡ load_verdict (spelled sheet.now) }
         ensures content { content self.new ≡ loaded (spelled sheet.now) (content self.old) }
     {
-        let platform = read_plan(sheet, &mut self.spare)?;
-        std::mem::swap(&mut self.rows, &mut self.spare);
-        self.platform = platform;
+        read_plan(sheet, &mut self.spare)?;
+        std::mem::swap(&mut self.table, &mut self.spare);
         self.settled = false;
         Ok(())
     }
@@ -34,7 +33,7 @@ impl Plan {
         ensures out { out.new ≡ fronted (written (spelling (content self.old))) out.old }
         ensures content { content self.new ≡ content self.old }
     {
-        sheet_text(&mut self.text, self.platform, self.rows.as_slice());
+        sheet_text(&mut self.text, self.table.platform(), self.table.rows());
         put(self.text.as_slice(), out)
     }
 
@@ -47,11 +46,7 @@ impl Plan {
         if !self.settled {
             return Err(Refusal::Edited);
         }
-        printed_text(
-            &mut self.text,
-            self.rows.as_slice(),
-            self.outcomes.as_slice(),
-        );
+        printed_text(&mut self.text, self.table.rows(), self.outcomes.as_slice());
         put(self.text.as_slice(), out)
     }
 }

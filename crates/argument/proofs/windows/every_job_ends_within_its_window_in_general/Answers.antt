@@ -1,3 +1,4 @@
+-- The lemma is applied here: where the function's attribute names it, the search stops before it finds the lemma's arguments.
 use Rattle.argument.proofs.Bound.{bound}
 use Rattle.argument.proofs.windows.every_job_ends_within_its_window_in_general.Goals as goal
 

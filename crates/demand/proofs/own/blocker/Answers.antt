@@ -1,20 +1,26 @@
-use Rattle.std.proofs.Common.{is_some, unwrap_or, sym}
-use Rattle.demand.proofs.OwnCore.{block_more, any_more, all_looked_at}
+use Rattle.std.proofs.Common.{◌≡◌, max, map, is_some, unwrap_or, sym, ap, ◌∙◌, rules}
+use Rattle.std.specs.List.{filter, reduce}
+use Rattle.std.proofs.lemmas.Iterator.{YieldsList-from_slice, YieldsList-from_map}
+use Rattle.std.proofs.lemmas.Iterator.Consumers.{YieldsList-at, YieldsList-from_filter, max_from_yields_List}
+use Rattle.std.proofs.lemmas.Iterator.Adapters.{option_map_id}
+use borrow.Author.Tests.{tests}
+use Rattle.tasks.specs.declared.task.Task.{Task}
+use Rattle.tasks.specs.Rows.{cost}
+use Rattle.argument.specs.Plans.{lower}
+use Rattle.demand.proofs.OwnCore.{longest_after, some_after}
 use Rattle.demand.proofs.own.blocker.Goals as goal
 
-pub loop-other-preserved : goal.loop-other-preserved
-loop-other-preserved c =
-    let tasks = c.args.tasks.now in let task = c.args.task.now.row in
-    let i = c.loop-other.other-index in let other = c.other-item.result in
-    let inside = c.loop-other-test.true in let is = c.other-item.is in (
-      block_more tasks task i other inside is (unwrap_or c.loop-other.longest 0) (unwrap_or c.longer-longest.result 0) c.longer-longest.ensures.ticks c.loop-other.invariant.0,
-      any_more tasks task i other inside is (is_some c.loop-other.longest) (is_some c.longer-longest.result) c.longer-longest.ensures.some c.loop-other.invariant.1,
-    )
+-- what the chain answers
+chain : (c : goal.After-max) → c.max.result ≡ reduce max (map (λ (other : Task). cost other.row) (filter (λ (other : Task). lower c.args.task.now.row other.row) c.args.tasks.now))
+chain c =
+    sym (option_map_id c.max.result)
+    ∙ max_from_yields_List {v = λ x. x} c.map.result c.max.result c.max.ensures.ran
+    (YieldsList-from_map _ (λ (other : Task). cost other.row)
+    (YieldsList-at c.map.ensures.source (YieldsList-from_filter _ (λ (other : Task). lower c.args.task.now.row other.row) (YieldsList-from_slice c.args.tasks.now (cc)) c.filter.ensures.closure (λ x r q k. search (rules, tests))))
+    c.map.ensures.closure (λ x r q k. search (rules, tests)))
 
-pub returns : goal.returns
-returns c =
-    let all = all_looked_at c.args.tasks.now c.loop-other.other-index c.loop-other.auto.other-index-end c.loop-other-test.false in
-    record {
-      ticks = λ cores. rw (sym all) c.loop-other.invariant.0;
-      some = rw (sym all) c.loop-other.invariant.1;
-    }
+pub returns-clause-ticks : goal.returns-clause-ticks
+returns-clause-ticks c = λ cores. ap (λ o. unwrap_or o 0) (chain c) ∙ longest_after c.args.task.now.row c.args.tasks.now
+
+pub returns-clause-some : goal.returns-clause-some
+returns-clause-some c = ap is_some (chain c) ∙ some_after c.args.task.now.row c.args.tasks.now

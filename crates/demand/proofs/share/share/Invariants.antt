@@ -7,4 +7,4 @@ use Rattle.demand.proofs.share.share.Given as goal
 abbrev pub invariant-loop-offer : goal.invariant-loop-offer
 invariant-loop-offer l =
     (l.ticks + taken (limit_of l.left) (phases_in l.w (of_core l.core (map listed (drop l.offer-index l.offers)))) ≡ taken (limit_of l.initial.left) (phases_in l.w (of_core l.core (map listed l.offers))))
-    × (l.ticks ≤ l.offer-index * 400000000000000)
+    × (l.ticks ≤ l.offer-index * ((l.w + 20000000) * 10000000))

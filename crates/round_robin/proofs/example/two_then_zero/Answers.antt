@@ -1,23 +1,17 @@
-use Rattle.std.proofs.lemmas.Result.{MatchResult-from_err}
 use Rattle.bus.specs.Courses.{Course}
 use Rattle.bus.proofs.Refused.{grant_sure}
 use Rattle.round_robin.specs.Account.{round_meaning}
 use Rattle.round_robin.proofs.TwoThenZero.{two_first, zero_waits, zero_second}
 use Rattle.round_robin.proofs.example.two_then_zero.Goals as goal
 
-pub returns-in_err-first : goal.returns-in_err-first
-returns-in_err-first c = record {
-  course = MatchResult-from_err c.from_residual.result _ _ c.from_residual.ensures.0 (λ _. tt);
-  order = λ z. absurd (grant_sure (round_meaning c.args.ring.now) 0 _ (c.in_err-first.ensures.account tt) z.zero_waits z.served);
-}
+pub returns-in_err-first-clause-order : goal.returns-in_err-first-clause-order
+returns-in_err-first-clause-order c z = absurd (grant_sure (round_meaning c.args.ring.now) 0 _ (c.in_err-first.ensures.account tt) z.zero_waits z.served)
 
-pub returns-in_err-second : goal.returns-in_err-second
-returns-in_err-second c =
+pub returns-in_err-second-clause-order : goal.returns-in_err-second-clause-order
+returns-in_err-second-clause-order c z =
     let g = c.in_ok-first.ensures.account tt in
-    let d = c.in_ok-done.ensures.account tt in record {
-      course = MatchResult-from_err c.from_residual-in_err-second.result _ _ c.from_residual-in_err-second.ensures.0 (λ _. tt);
-      order = λ z. absurd (grant_sure (round_meaning c.done.new.self) 0 _ (c.in_err-second.ensures.account tt) (zero_waits c.args.ring.now c.grant.new.self c.done.new.self _ z g d) d.served);
-    }
+    let d = c.in_ok-done.ensures.account tt in
+    absurd (grant_sure (round_meaning c.done.new.self) 0 _ (c.in_err-second.ensures.account tt) (zero_waits c.args.ring.now c.grant.new.self c.done.new.self _ z g d) d.served)
 
 pub returns : goal.returns
 returns c =

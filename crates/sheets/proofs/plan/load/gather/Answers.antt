@@ -1,52 +1,32 @@
-use Rattle.std.proofs.Common.{suc, ◌-◌, length, Ok, vec_items, refl, ap, ◌∙◌, arith}
-use Rattle.sheets.specs.Records.{record_at, place_after}
-use Rattle.sheets.specs.Spelled.{rows_from}
-use Rattle.sheets.specs.Answers.{advanced}
-use Rattle.sheets.proofs.Gathering.{still_enough, stops, goes_on_with}
+use Rattle.std.proofs.Common.{◌≡◌, suc, length, Some, None, Ok, vec_items, refl, ◌∙◌, arith, rules}
+use Rattle.rules.specs.Rules.{add_verdict, with_row}
+use Rattle.sheets.specs.Records.{due}
+use Rattle.sheets.specs.Spelled.{task_record}
+use Rattle.sheets.proofs.Gathering.{comes_to, after_a_task}
 use Rattle.sheets.proofs.plan.load.gather.Goals as goal
 
-pub loop-more-init : goal.loop-more-init
-loop-more-init c =
-    let sheet = c.args.reader.now.sheet.now in
-    ((suc (length sheet), omega arith, ap (rows_from (suc (length sheet)) c.args.cores sheet c.args.reader.now.place) c.requires.none), c.requires.room, refl)
+pub loop-task-init : goal.loop-task-init
+loop-task-init c = (record { more = suc (length c.args.reader.now.sheet.now); enough = omega arith; is = refl }, refl)
 
-pub loop-more-preserved : goal.loop-more-preserved
-loop-more-preserved c =
-    let sheet = c.loop-more.reader.sheet.now in let p = c.loop-more.reader.place in
-    let more = c.loop-more.invariant.0.0 in let enough = c.loop-more.invariant.0.1 in
-    let said = c.in-Ok.ensures in
-    let true_more = c.if-not-more.false in
-    let on = said.further (ap Ok true_more) in
-    let rest = rows_from (more - 1) c.args.cores sheet (place_after (record_at sheet p) p) in
-    let size = ap length said.sheet in (
-      (
-        more - 1,
-        omega (arith, size, still_enough (length sheet) p c.advance.new.reader.place more enough on.0 on.1),
-        goes_on_with more c.args.cores sheet p (vec_items c.loop-more.rows) _ (omega (arith, enough)) c.loop-more.invariant.0.2
-            c.advance.new.reader.sheet.now c.advance.new.reader.place (vec_items c.advance.new.rows) said.sheet said.place
-            (said.value rest ∙ ap (λ b. advanced (Ok b) (vec_items c.advance.new.rows) rest) true_more),
-      ),
-      omega (arith, said.room, c.loop-more.invariant.1),
-      said.room ∙ c.loop-more.invariant.2,
-    )
+pub returns-in_err-task-clause-value : goal.returns-in_err-task-clause-value
+returns-in_err-task-clause-value c = let told = comes_to c.loop-task.invariant.0 c.in_err-task.ensures.value in search rules
 
-pub returns-then-not-more : goal.returns-then-not-more
-returns-then-not-more c =
-    let sheet = c.loop-more.reader.sheet.now in let p = c.loop-more.reader.place in
-    let more = c.loop-more.invariant.0.0 in let said = c.in-Ok.ensures in
-    let rest = rows_from (more - 1) c.args.cores sheet (place_after (record_at sheet p) p) in
-    record {
-      value = stops more c.args.cores sheet p (vec_items c.loop-more.rows) _ (omega (arith, c.loop-more.invariant.0.1)) c.loop-more.invariant.0.2 _
-          (said.value rest ∙ ap (λ b. advanced (Ok b) (vec_items c.advance.new.rows) rest) c.if-not-more.true);
-      room = said.room ∙ c.loop-more.invariant.2;
-    }
+pub loop-task-preserved : goal.loop-task-preserved
+loop-task-preserved c =
+    let before = c.loop-task in
+    let found : Ok (Some c.in-Some.task) ≡ task_record (due before.reader) = search rules in
+    let ok : c.add.result ≡ Ok tt = search rules in
+    let added : vec_items c.add.new.self.rows ≡ with_row (vec_items before.table.rows) c.in-Some.task.what = search rules in
+    let accepted : add_verdict before.table.platform.cores (vec_items before.table.rows) c.in-Some.task.what ≡ Ok tt = search rules in
+    (rw (c.add.ensures.edited.1, c.later.ensures.moved, added) (after_a_task before.invariant.0 found accepted), c.add.ensures.edited.1 ∙ before.invariant.1)
 
-pub returns-in-Err : goal.returns-in-Err
-returns-in-Err c =
-    let sheet = c.loop-more.reader.sheet.now in let p = c.loop-more.reader.place in
-    let more = c.loop-more.invariant.0.0 in let said = c.in-Err.ensures in
-    record {
-      value = stops more c.args.cores sheet p (vec_items c.loop-more.rows) _ (omega (arith, c.loop-more.invariant.0.1)) c.loop-more.invariant.0.2 _
-          (said.value (rows_from (more - 1) c.args.cores sheet (place_after (record_at sheet p) p)));
-      room = said.room ∙ c.loop-more.invariant.2;
-    }
+pub returns-in_err-map_err-clause-value : goal.returns-in_err-map_err-clause-value
+returns-in_err-map_err-clause-value c =
+    let found : Ok (Some c.in-Some.task) ≡ task_record (due c.loop-task.reader) = search rules in
+    let told = rw (← c.add.ensures.answer) at (comes_to c.loop-task.invariant.0 found) in
+    search rules
+
+pub returns-clause-value : goal.returns-clause-value
+returns-clause-value c =
+    let found : Ok None ≡ task_record (due c.loop-task.reader) = search rules in
+    comes_to c.loop-task.invariant.0 found

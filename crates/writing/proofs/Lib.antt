@@ -1,2 +1,0 @@
-mod Before
-mod Chains
