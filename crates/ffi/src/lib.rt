@@ -62,7 +62,7 @@ impl From<Outcome> for Found {
 
 // Makes a plan of the tasks, settles it so many times on the arbiter of its bus line, and tells each task's outcome as far as there is room.
 // Answers how many tasks are late, or the greatest number there is where a call was refused, since C has no Result.
-// The crate `ffi_c` gives it to C.
+// The crate `ffi_c` gives it to C, whose callers pass plain numbers one by one.
 pub fn settler_settle(
     heap: Global,
     cores: u8,

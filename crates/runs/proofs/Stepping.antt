@@ -1,8 +1,8 @@
 -- The four steps of a moment, in the program's record of a run.
-use Rattle.std.proofs.Common.{◌≡◌, List, [], vec_len, refl, sym, ◌∙◌, arith}
+use Rattle.std.proofs.Common.{◌≡◌, List, vec_len, sym, ◌∙◌}
 use Rattle.argument.specs.Plans.{Plan}
 use Rattle.bus.specs.Means.{Means, Laws}
-use Rattle.bridge.specs.States.{State, begun}
+use Rattle.bridge.specs.States.{State}
 use Rattle.bridge.specs.Moments.{finishes, acts}
 use Rattle.bridge.specs.Runs.{run}
 use Rattle.runs.specs.declared.rows.LogRow.{LogRow}
@@ -18,9 +18,6 @@ abbrev pub DrivenBy : {X : Type 0} → Means X → Plan → X → Progress → L
 DrivenBy B P x p log y = Driven B P p.jobs.items x p.time p.released p.stages.items p.ready.items.items log y
 
 module _ {X : Type 0} {B : Means X} {P : Plan} {x : X} where
-  pub driven_first : (p : Progress) (log : List LogRow) → AtProgress B P x x p log begun → DrivenBy B P x p log x
-  driven_first p log a = let e : p.time ≡ 0 = a.shows.now in rw e (record { choices = []; count = refl; at = rw e at a; early = omega arith })
-
   -- step 1 changes the stages alone
   pub at_finished : {y : X} {log : List LogRow} {S : State} (p q : Progress) → q.jobs.items ≡ p.jobs.items → q.ready ≡ p.ready → q.released ≡ p.released
       → At B P p.jobs.items x y q.time q.stages.items (pool_of p) log S → AtProgress B P x y q log S

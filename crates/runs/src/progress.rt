@@ -40,7 +40,7 @@ pub struct Progress {
     ghost below: { RowsBelow (vec_len jobs) ready.items.items } by { RowsBelow_prop (vec_len jobs) ready.items.items },
     // no more are ready than are released
     ghost kept: { vec_len ready.items ≤ released },
-    // every job may be ready at once
+    // every job may be ready at once; how many jobs there may be is asked by the two steps that need it, and by the call that adds one
     ghost roomy: { vec_len jobs ≤ vec_capacity ready.items },
     // room for every job of every script that may be run, and for every core of a platform
     ghost job_room: { 1024 ≤ vec_capacity jobs },
