@@ -1,13 +1,8 @@
-use Rattle.std.proofs.Common.{vec_items, sym, ap, ◌∙◌, arith, rules}
+use Rattle.std.proofs.Common.{vec_items, sym, ap, ◌∙◌, rules}
 use Rattle.rules.specs.Rules.{place_of, change_verdict}
 use Rattle.rules.proofs.Kept.{changeable, changed_each, changed_apart}
 use Rattle.rules.proofs.Found.{place_found}
 use Rattle.rules.proofs.table.Table.change.Goals as goal
-
-pub index_mut-requires : goal.index_mut-requires
-index_mut-requires c =
-    let at = ap (place_of c.args.row.id) (sym c.rows.ensures) ∙ c.in_ok-place.ensures.1 in
-    omega (arith, place_found (vec_items c.args.self.now.rows) c.args.row.id c.in_ok-place.place at, c.args.self.now.rows.ok.0)
 
 pub invariant_of-self : goal.invariant_of-self
 invariant_of-self c =

@@ -1,13 +1,6 @@
-use Rattle.std.proofs.Common.{◌≡◌, ◌+◌, length, Some, vec_items, arith, rules}
-use Rattle.rules.specs.Rules.{place_of}
+use Rattle.std.proofs.Common.{◌≡◌, ◌+◌, length, vec_items, arith, rules}
 use Rattle.rules.proofs.Kept.{removed_each, removed_apart}
-use Rattle.rules.proofs.Found.{place_found}
 use Rattle.rules.proofs.table.Table.remove.Goals as goal
-
-pub remove-requires : goal.remove-requires
-remove-requires c =
-    let at : place_of c.args.id (vec_items c.args.self.now.rows) ≡ Some c.in_ok-place.place = search rules in
-    omega (arith, place_found (vec_items c.args.self.now.rows) c.args.id c.in_ok-place.place at, c.args.self.now.rows.ok.0)
 
 pub invariant_of-self : goal.invariant_of-self
 invariant_of-self c =

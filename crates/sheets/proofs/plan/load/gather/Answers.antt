@@ -1,12 +1,9 @@
-use Rattle.std.proofs.Common.{◌≡◌, suc, length, Some, None, Ok, vec_items, refl, ◌∙◌, arith, rules}
+use Rattle.std.proofs.Common.{◌≡◌, Some, None, Ok, vec_items, ◌∙◌, rules}
 use Rattle.rules.specs.Rules.{add_verdict, with_row}
 use Rattle.sheets.specs.Records.{due}
 use Rattle.sheets.specs.Spelled.{task_record}
 use Rattle.sheets.proofs.Gathering.{comes_to, after_a_task}
 use Rattle.sheets.proofs.plan.load.gather.Goals as goal
-
-pub loop-task-init : goal.loop-task-init
-loop-task-init c = (record { more = suc (length c.args.reader.now.sheet.now); enough = omega arith; is = refl }, refl)
 
 pub returns-in_err-task-clause-value : goal.returns-in_err-task-clause-value
 returns-in_err-task-clause-value c = let told = comes_to c.loop-task.invariant.0 c.in_err-task.ensures.value in search rules
