@@ -1,5 +1,5 @@
 // A script by ids, looked up in the rows of a plan.
-ghost use Rattle.std.specs.Prelude.{◌≡◌, ℕ, ◌≤◌, [], ◌∷◌, true, false, length, IfSome, IfNone, OnOk, IfErr, slice_index_or};
+ghost use Rattle.std.specs.Prelude.{◌≡◌, ℕ, ◌≤◌, [], ◌∷◌, true, false, length, IfSome, IfNone, OnOk, IfErr, slice_index_or, vec_capacity};
 ghost use Rattle.tasks.specs.Rows.{no_row};
 ghost use Rattle.tasks.specs.Refusals.{told, numbered};
 ghost use Rattle.argument.specs.Plans.{plan_of};
@@ -68,6 +68,9 @@ fn admit(rows: &[Row], row: &ScriptRow, earlier: &[Job]) -> Option<Job>
 pub fn look_up(rows: &[Row], script: &[ScriptRow], progress: &mut Progress) -> Result<(), Refusal>
     requires { length rows.now ≤ 64 }
     ensures found { OnOk result ((progress.new.jobs.items ≡ jobs_for rows.now script.now) × (length script.now ≤ 1024) × LawfulScript (plan_of 0 rows.now) (script_for rows.now script.now)) }
+    ensures room { vec_capacity progress.new.jobs ≡ vec_capacity progress.old.jobs }
+    ensures cores { progress.new.stages.items ≡ [] }
+    ensures ready { progress.new.ready.items.items ≡ [] }
     ensures fault { IfErr result (λ e. (k : ℕ) × (told e ≡ numbered 19 (k ∷ [])) × FirstFault rows.now script.now k) }
 {
     progress.clear();

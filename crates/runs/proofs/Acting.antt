@@ -1,7 +1,7 @@
 -- Step 3 at one core, and its loop.
-use Rattle.std.proofs.Common.{◌≡◌, ℕ, ◌+◌, ◌<◌, ◌≤◌, Bool, true, false, cond, ◌&&◌, eqb, ◌⊎◌, List, ◌∷◌, ◌++◌, length, get_or, set, take, Some, None, sym, refl, ap, ◌∙◌, subst, inl, inr, add-one, arith, length-set}
+use Rattle.std.proofs.Common.{◌≡◌, ℕ, ◌+◌, ◌<◌, ◌≤◌, Bool, true, false, cond, ◌&&◌, eqb, ◌⊎◌, List, ◌∷◌, length, get_or, set, Some, None, sym, refl, ap, ◌∙◌, subst, inl, inr, add-one, arith, length-set}
 use Rattle.std.proofs.lemmas.Bool.{both_ways, eq-eqb, ne_eqb, cond-true, cond-false, and_left}
-use Rattle.std.proofs.lemmas.List.{set-get_or, take_at}
+use Rattle.std.proofs.lemmas.List.{set-get_or}
 use Rattle.tasks.specs.declared.refusal.Refusal.{Refusal}
 use Rattle.argument.specs.Plans.{Plan}
 use Rattle.bus.specs.Means.{Means, Laws, JoinRefused}
@@ -201,7 +201,7 @@ module _ {X : Type 0} {B : Means X} (laws : Laws B) {J : List Job} {time upto : 
 
 -- after them all
 pub acted_all : {X : Type 0} {B : Means X} {J : List Job} {time upto : ℕ} {stages₀ : List Stage} {ready₀ : List Ready'} {log₀ : List LogRow} {y₀ : X} {c : ℕ} {stages : List Stage} {ready : List Ready'} {log : List LogRow} {y : X}
-    → Acted B J time upto stages₀ ready₀ log₀ y₀ c stages ready log y → (n : ℕ) (rest : List Stage) → c ≡ n → length stages ≡ n
-    → (P : Plan) (x : X) (S : State) → At B P J x y₀ time stages₀ (pool upto ready₀) log₀ S → At B P J x y time (take n (stages ++ rest)) (pool upto ready) log (acts P (script_of J) n S)
-acted_all {B = B} {J = J} {time = time} {upto = upto} {stages = stages} {ready = ready} {log = log} {y = y} f n rest e m P x S a =
-    rw (take_at stages rest n m) (subst (λ k. At B P J x y time stages (pool upto ready) log (acts P (script_of J) k S)) e (f.goes P x S a))
+    → Acted B J time upto stages₀ ready₀ log₀ y₀ c stages ready log y → (n : ℕ) → c ≡ n
+    → (P : Plan) (x : X) (S : State) → At B P J x y₀ time stages₀ (pool upto ready₀) log₀ S → At B P J x y time stages (pool upto ready) log (acts P (script_of J) n S)
+acted_all {B = B} {J = J} {time = time} {upto = upto} {stages = stages} {ready = ready} {log = log} {y = y} f n e P x S a =
+    subst (λ k. At B P J x y time stages (pool upto ready) log (acts P (script_of J) k S)) e (f.goes P x S a)

@@ -1,7 +1,7 @@
 -- Step 1 at one core.
-use Rattle.std.proofs.Common.{◌≡◌, ℕ, ◌+◌, ◌<◌, Bool, true, false, cond, ◌&&◌, eqb, List, ◌∷◌, ◌++◌, length, get_or, set, take, Some, None, sym, refl, ap, ◌∙◌, subst, add-one, arith, length-set}
+use Rattle.std.proofs.Common.{◌≡◌, ℕ, ◌+◌, ◌<◌, Bool, true, false, cond, ◌&&◌, eqb, List, ◌∷◌, length, get_or, set, Some, None, sym, refl, ap, ◌∙◌, subst, add-one, arith, length-set}
 use Rattle.std.proofs.lemmas.Bool.{both_ways, eq-eqb, ne_eqb, cond-true, cond-false, and_left}
-use Rattle.std.proofs.lemmas.List.{set-get_or, take_at}
+use Rattle.std.proofs.lemmas.List.{set-get_or}
 use Rattle.tasks.specs.declared.refusal.Refusal.{Refusal}
 use Rattle.argument.specs.Plans.{Plan}
 use Rattle.argument.specs.Logs as Logs
@@ -122,20 +122,27 @@ module _ {X : Type 0} {B : Means X} (laws : Laws B) {P : Plan} {J : List Job} {x
 -- after step 1 at the cores below c
 pub record Finished {X : Type 0} (B : Means X) (time : ℕ) (log : List LogRow) (stages₀ : List Stage) (y₀ : X) (c : ℕ) (stages : List Stage) (y : X) : Type 0 where
   pub inside : AllInside (length log) stages
+  -- whatever number of jobs they are of
+  pub keeps : (n : ℕ) → AllInside n stages₀ → AllInside n stages
   pub goes : (P : Plan) (J : List Job) (x : X) (pool : Pool) (S : State) → At B P J x y₀ time stages₀ pool log S → At B P J x y time stages pool log (finishes c S)
 
 module _ {X : Type 0} {B : Means X} (laws : Laws B) {time : ℕ} {log : List LogRow} {stages₀ : List Stage} {y₀ : X} {c : ℕ} {stages : List Stage} {y : X}
     (f : Finished B time log stages₀ y₀ c stages y) (l : c < length stages) where
+  pub ended_in : (n : ℕ) → AllInside n stages → AllInside n (set stages c (onward (get_or stages c Idle) Ended))
+  ended_in n h = inside_set n stages c (onward (get_or stages c Idle) Ended) h (inside_on n (get_or stages c Idle) (h c l))
+
   pub finished_some : {stages' : List Stage} {s : Stage} {y' y'' : X} → leaves log time (get_or stages c Idle) ≡ true → s ≡ onward (get_or stages c Idle) Ended
       → stages' ≡ set stages c s → y' ≡ y'' → (B.stands y → B.ends y y'') → Finished B time log stages₀ y₀ (c + 1) stages' y'
   finished_some t e u v q = rw add-one (rw u (rw v (rw e (record {
-    inside = inside_set (length log) stages c (onward (get_or stages c Idle) Ended) f.inside (inside_on (length log) (get_or stages c Idle) (f.inside c l));
+    inside = ended_in (length log) f.inside;
+    keeps = λ n h. ended_in n (f.keeps n h);
     goes = λ P J x pool S a. (let h = f.goes P J x pool S a in finish_some laws h c l (get_or stages c Idle) refl t _ (q (standing laws h c l)));
   }))))
 
   pub finished_none : {stages' : List Stage} {y' : X} → leaves log time (get_or stages c Idle) ≡ false → stages' ≡ set stages c (get_or stages c Idle) → y' ≡ y → Finished B time log stages₀ y₀ (c + 1) stages' y'
   finished_none t u v = rw add-one (rw (u ∙ set-get_or stages c Idle) (rw v (record {
     inside = f.inside;
+    keeps = f.keeps;
     goes = λ P J x pool S a. finish_none laws (f.goes P J x pool S a) c l (get_or stages c Idle) refl t;
   })))
 
@@ -147,7 +154,6 @@ module _ {X : Type 0} {B : Means X} (laws : Laws B) {time : ℕ} {log : List Log
 
 -- after them all
 pub finished_all : {X : Type 0} {B : Means X} {time : ℕ} {log : List LogRow} {stages₀ : List Stage} {y₀ : X} {c : ℕ} {stages : List Stage} {y : X}
-    → Finished B time log stages₀ y₀ c stages y → (n : ℕ) (rest : List Stage) → c ≡ n → length stages ≡ n
-    → (P : Plan) (J : List Job) (x : X) (pool : Pool) (S : State) → At B P J x y₀ time stages₀ pool log S → At B P J x y time (take n (stages ++ rest)) pool log (finishes n S)
-finished_all {B = B} {time = time} {log = log} {stages = stages} {y = y} f n rest e m P J x pool S a =
-    rw (take_at stages rest n m) (subst (λ k. At B P J x y time stages pool log (finishes k S)) e (f.goes P J x pool S a))
+    → Finished B time log stages₀ y₀ c stages y → (n : ℕ) → c ≡ n
+    → (P : Plan) (J : List Job) (x : X) (pool : Pool) (S : State) → At B P J x y₀ time stages₀ pool log S → At B P J x y time stages pool log (finishes n S)
+finished_all {B = B} {time = time} {log = log} {stages = stages} {y = y} f n e P J x pool S a = subst (λ k. At B P J x y time stages pool log (finishes k S)) e (f.goes P J x pool S a)

@@ -1,7 +1,6 @@
 -- Step 4.
 use Rattle.std.proofs.Common.{◌≡◌, ℕ, ◌<◌, eqb, ◌⊎◌, List, ◌∷◌, length, get_or, set, Some, sym, refl, ap, ◌∙◌, subst, inl, inr, arith}
 use Rattle.std.proofs.lemmas.Bool.{eq-eqb, ne_eqb, cond-true, cond-false}
-use Rattle.std.proofs.lemmas.List.{get_or_read}
 use Rattle.tasks.specs.declared.refusal.Refusal.{Refusal}
 use Rattle.argument.specs.Plans.{Plan}
 use Rattle.bus.specs.Turns.{Meaning}
@@ -95,16 +94,15 @@ module _ {X : Type 0} {B : Means X} (laws : Laws B) {P : Plan} {J : List Job} {x
         }
 
     -- the core of the port is read at i, the port's index
-    module _ (i : ℕ) (at_port : i ≡ p) (o : Stage) (read : o ≡ get_or stages i o) where
-      here : get_or stages p Idle ≡ o
-      here = ap (λ j. get_or stages j Idle) (sym at_port) ∙ sym (get_or_read stages i o (omega (arith, at_port, l)) read Idle)
+    module _ (i : ℕ) (at_port : i ≡ p) where
+      here : get_or stages p Idle ≡ get_or stages i Idle
+      here = ap (λ j. get_or stages j Idle) (sym at_port)
 
-      pub granted_must : ((t : Turn) (k : ℕ) → o ≡ Waiting t k → ⊥) → ⊥
-      granted_must none_waits = granted_waits o here none_waits
+      pub granted_must : ((t : Turn) (k : ℕ) → get_or stages i Idle ≡ Waiting t k → ⊥) → ⊥
+      granted_must none_waits = granted_waits (get_or stages i Idle) here none_waits
 
-      pub granted_at : length log ≡ length J → (t : Turn) (k : ℕ) (s : Stage) (z : Job) (row : LogRow) → o ≡ Waiting t k → s ≡ onward o Granted → z ≡ get_or J k z
-          → row ≡ served t z time (get_or log k none) → Granting B P J x y' time (set stages i s) marks (set log k row) S
-      granted_at rows t k s z row e f r w =
+      pub granted_at : length log ≡ length J → (t : Turn) (k : ℕ) (s : Stage) (row : LogRow) → get_or stages i Idle ≡ Waiting t k → s ≡ onward (get_or stages i Idle) Granted
+          → row ≡ served t (get_or J k no_job) time (get_or log k none) → Granting B P J x y' time (set stages i s) marks (set log k row) S
+      granted_at rows t k s row e f w =
           let known = (inv.cores.holds p k (sym (h.shows.has p l) ∙ ap job (here ∙ e))).known in
-          let is_job : z ≡ get_or J k no_job = get_or_read J k z known r no_job in
-          rw (at_port, w, is_job, f, e) (granted_some t k (here ∙ e) (omega arith))
+          rw (at_port, w, f, e) (granted_some t k (here ∙ e) (omega arith))

@@ -20,7 +20,7 @@ mod release;
 pub const MOST_JOBS: usize = 1024;
 
 // Its memory is reserved once, so that a run asks for none. The log is lent for one run, and this record outlives it,
-// so each method that takes the log asks that it has a row for each job.
+// so each method that writes the log asks that it has a row for each job, and each that reads it one for each job on a core.
 #[derive(Drop)]
 pub struct Progress {
     // the script's rows, looked up
@@ -32,8 +32,8 @@ pub struct Progress {
     // the moment, and how many rows of the script are released by then
     time: u64,
     released: usize,
-    // a core's number is a byte
-    ghost cores: { vec_len stages ≤ 256 },
+    // how many cores there are is a byte
+    ghost cores: { vec_len stages ≤ 255 },
     ghost within: { released ≤ vec_len jobs },
     // each core's job and each ready job is one of the script's
     ghost inside: { AllInside (vec_len jobs) stages.items } by { AllInside_prop (vec_len jobs) stages.items },

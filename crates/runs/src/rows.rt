@@ -1,5 +1,5 @@
 // What a run reads and writes.
-ghost use Rattle.std.specs.Prelude.{◌≡◌, ◌+◌, ◌^◌, ◌<◌};
+ghost use Rattle.std.specs.Prelude.{◌≡◌, ◌+◌, ◌^◌, ◌<◌, map, length};
 ghost use Rattle.runs.specs.Machine.{served};
 ghost use Rattle.runs.specs.Rows.{job_on, opened};
 
@@ -76,6 +76,17 @@ impl From<&Job> for LogRow {
             r_granted: 0,
             end: 0,
         }
+    }
+}
+
+// The rows of a log before the run: whose they are, and no more.
+pub fn open(jobs: &[Job], log: &mut [LogRow])
+    requires { length log.old ≡ length jobs.now }
+    ensures { log.new ≡ map opened jobs.now }
+{
+    // Not over `log.iter_mut().zip(..)`: after that loop a proof knows nothing of what the rows hold.
+    for (k, job) in jobs.iter().enumerate() {
+        log[k] = LogRow::from(job);
     }
 }
 

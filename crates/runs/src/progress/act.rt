@@ -1,8 +1,7 @@
 // Step 3 of a moment: cores act, from 0 upward.
+use crate::act::act_all;
 use crate::progress::Progress;
-use crate::ready::take_ready;
 use crate::rows::LogRow;
-use crate::stage::Event;
 use bus::arbiter::Arbiter;
 use tasks::refusal::Refusal;
 
@@ -25,20 +24,16 @@ impl Progress {
             → AtProgress B.Arbiter.means P x arb.old self.old log.old S
             → MatchResult result (λ _. AtProgress B.Arbiter.means P x arb.new self.new log.new (acts P (script_of self.old.jobs.items) (vec_len self.old.stages) S)) (λ _. ⊥) }
     {
-        let ready = &mut self.ready;
-        for (c, stage) in self.stages.iter_mut().enumerate() {
-            let core = c as u8;
-            if stage.has_executed(log, self.time) {
-                arb.join(core)?;
-                stage.on(Event::Ended);
-            } else if stage.is_idle() {
-                if let Some(k) = take_ready(ready, core) {
-                    arb.join(core)?;
-                    stage.on(Event::Start(k));
-                    log[k].start = self.time;
-                }
-            }
-        }
-        Ok(())
+        let cores = self.stages.len() as u8;
+        act_all(
+            &self.jobs,
+            cores,
+            self.time,
+            &mut self.stages,
+            self.released,
+            &mut self.ready,
+            log,
+            arb,
+        )
     }
 }

@@ -1,11 +1,11 @@
 // Before a run.
-ghost use Rattle.std.specs.Prelude.{◌≡◌, ◌<◌, ◌≤◌, ◌++◌, [], ◌∷◌, map, length, replicate, IfOk, vec_len};
+ghost use Rattle.std.specs.Prelude.{◌≡◌, ◌<◌, ◌≤◌, ◌++◌, [], ◌∷◌, map, length, replicate, IfOk, vec_len, vec_capacity};
 ghost use Rattle.runs.specs.declared.stage.Stage.TheVariants.{Idle};
 ghost use Rattle.runs.specs.Rows.{opened};
 
 use crate::progress::{MOST_JOBS, Progress};
-use crate::rows::{Job, LogRow};
-use crate::stage::Stage;
+use crate::rows::{self, Job, LogRow};
+use crate::stage::idle_stages;
 use bus::arbiter::MOST_PORTS;
 use roster::Roster;
 use std::alloc::{AllocError, Global};
@@ -33,7 +33,9 @@ impl Progress {
     // Forgets the run: no job is left, and no core.
     pub fn clear(&mut self)
         ensures jobs { self.new.jobs.items ≡ [] }
+        ensures room { vec_capacity self.new.jobs ≡ vec_capacity self.old.jobs }
         ensures cores { self.new.stages.items ≡ [] }
+        ensures ready { self.new.ready.items.items ≡ [] }
     {
         self.stages.clear();
         self.ready.clear();
@@ -44,7 +46,10 @@ impl Progress {
     // One more job, the last of the script.
     pub fn add(&mut self, job: Job)
         requires { vec_len self.old.jobs < 1024 }
-        ensures { self.new.jobs.items ≡ self.old.jobs.items ++ job ∷ [] }
+        ensures jobs { self.new.jobs.items ≡ self.old.jobs.items ++ job ∷ [] }
+        ensures room { vec_capacity self.new.jobs ≡ vec_capacity self.old.jobs }
+        ensures cores { self.new.stages ≡ self.old.stages }
+        ensures ready { self.new.ready ≡ self.old.ready }
     {
         self.jobs.push_reserved(job);
     }
@@ -61,15 +66,15 @@ impl Progress {
         ensures log { log.new ≡ map opened self.old.jobs.items }
     {
         self.stages.clear();
-        let Ok(()) = self.stages.resize(usize::from(cores), Stage::Idle) else {
+        let Ok(()) = self
+            .stages
+            .extend_from_slice(&idle_stages()[..usize::from(cores)])
+        else {
             unreachable()
         };
         self.ready.clear();
         self.time = 0;
         self.released = 0;
-        // Not over `log.iter_mut().zip(..)`: after that loop a proof knows nothing of what the rows hold.
-        for (k, job) in self.jobs.iter().enumerate() {
-            log[k] = LogRow::from(job);
-        }
+        rows::open(&self.jobs, log);
     }
 }

@@ -16,6 +16,8 @@ impl Progress {
         requires rows { length log.old ≡ vec_len self.old.jobs }
         requires short { Short self.old.jobs.items }
         requires begins { (P : Plan) × AtProgress B.Arbiter.means P arb.old arb.old self.old log.old begun }
+        ensures jobs { self.new.jobs.items ≡ self.old.jobs.items }
+        ensures cores { vec_len self.new.stages ≡ vec_len self.old.stages }
         ensures ran { (P : Plan) → AtProgress B.Arbiter.means P arb.old arb.old self.old log.old begun
             → MatchResult result (λ _. Ran B.Arbiter.means P (script_of self.old.jobs.items) arb.old arb.new log.new) (λ _. ⊥) }
     {

@@ -1,7 +1,7 @@
 // Step 4 of a moment: if nothing is in service and a port waits, the arbiter grants.
+use crate::grant::grant;
 use crate::progress::Progress;
 use crate::rows::LogRow;
-use crate::stage::{Event, Stage};
 use bus::arbiter::Arbiter;
 
 impl Progress {
@@ -24,13 +24,6 @@ impl Progress {
             → At B.Arbiter.means P self.old.jobs.items x arb.old self.old.time self.old.stages.items pool log.old S
             → Granting B.Arbiter.means P self.new.jobs.items x arb.new self.new.time self.new.stages.items pool log.new S }
     {
-        let Ok(port) = arb.grant() else {
-            return;
-        };
-        let stage = &mut self.stages[usize::from(port)];
-        if let Stage::Waiting(turn, k) = *stage {
-            stage.on(Event::Granted);
-            log[k].serve(turn, &self.jobs[k], self.time);
-        }
+        grant(&self.jobs, self.time, &mut self.stages, log, arb);
     }
 }

@@ -1,6 +1,6 @@
 // Step 2 of a moment: jobs become ready.
 use crate::progress::Progress;
-use crate::ready::Ready;
+use crate::release::release_due;
 
 impl Progress {
     ghost use Rattle.std.specs.Prelude.{◌≡◌, ℕ, ◌<◌, ◌≤◌, vec_len, vec_capacity};
@@ -21,16 +21,6 @@ impl Progress {
             → Pooled P (script_of self.new.jobs.items) (pool_of self.new) S }
         ensures all { (P : Plan) → LawfulScript P (script_of self.new.jobs.items) → AllReleased self.new.jobs.items self.new.time self.new.released }
     {
-        let ready = &mut self.ready;
-        // counted on from the rows that were released: their number is what this step finds
-        let mut released = self.released;
-        for job in &self.jobs[released..] {
-            if job.release > self.time {
-                break;
-            }
-            ready.insert(Ready::new(released, job));
-            released += 1;
-        }
-        self.released = released;
+        self.released = release_due(&self.jobs, self.time, self.released, &mut self.ready);
     }
 }

@@ -1,4 +1,4 @@
-use Rattle.std.proofs.Common.{get_or, vec_items, sym, refl, ◌∙◌, subst, inl, inr, arith}
+use Rattle.std.proofs.Common.{get_or, vec_items, sym, refl, ap, ◌∙◌, subst, inl, inr, arith}
 use Rattle.std.proofs.lemmas.Bool.{cases_eq}
 use Rattle.std.proofs.lemmas.Option.{MatchOption-at_some, MatchOption-at_none}
 use Rattle.std.proofs.lemmas.Result.{err_from_is_err_and}
@@ -25,10 +25,13 @@ loop-k-preserved c =
     let n = MatchOption-at_some _ _ c.in_ok-job.job is c.admit.ensures.some in
     let a = subst (λ e. Admitted rows (get_or script k no_script) e n.0) (c.jobs.ensures ∙ c.loop-k.invariant.0) n.1 in
     let row = lawful_row rows script k c.loop-k-test.true n.0 a.known a in (
-      jobs_more rows script k c.loop-k-test.true n.0 a.known (vec_items c.loop-k.progress.jobs) (vec_items c.add.new.self.jobs) c.in_ok-job.job c.loop-k.invariant.0 n.2 c.add.ensures,
+      jobs_more rows script k c.loop-k-test.true n.0 a.known (vec_items c.loop-k.progress.jobs) (vec_items c.add.new.self.jobs) c.in_ok-job.job c.loop-k.invariant.0 n.2 c.add.ensures.jobs,
       omega (arith, among_first rows script k c.loop-k-test.true n.0 a.known a),
       λ j i. elim (cases_eq j k) [
         | inl e ↦ subst (LawfulRow (plan_of 0 rows) (script_for rows script)) (sym e) row
         | inr e ↦ c.loop-k.invariant.2 j (omega arith)
       ],
+      c.add.ensures.room ∙ c.loop-k.invariant.3,
+      ap vec_items c.add.ensures.cores ∙ c.loop-k.invariant.4,
+      ap (λ r. vec_items r.items) c.add.ensures.ready ∙ c.loop-k.invariant.5,
     )

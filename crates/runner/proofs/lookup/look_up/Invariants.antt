@@ -1,4 +1,4 @@
-use Rattle.std.proofs.Common.{◌≡◌, ℕ, ◌<◌, ◌≤◌, take}
+use Rattle.std.proofs.Common.{◌≡◌, ℕ, ◌<◌, ◌≤◌, [], take, vec_capacity}
 use Rattle.argument.specs.Plans.{plan_of}
 use Rattle.bridge.specs.Scripts.{LawfulRow}
 use Rattle.runner.specs.Lookups.{jobs_for, script_for}
@@ -9,3 +9,6 @@ invariant-loop-k l =
     (l.progress.jobs.items ≡ jobs_for l.rows (take l.k l.script))
     × (l.k ≤ 1024)
     × ((j : ℕ) → j < l.k → LawfulRow (plan_of 0 l.rows) (script_for l.rows l.script) j)
+    × (vec_capacity l.progress.jobs ≡ vec_capacity l.initial.progress.jobs)
+    × (l.progress.stages.items ≡ [])
+    × (l.progress.ready.items.items ≡ [])

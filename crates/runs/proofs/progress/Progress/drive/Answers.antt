@@ -4,6 +4,7 @@ use Rattle.bridge.specs.Moments.{finishes}
 use Rattle.bridge.specs.Runs.{run}
 use Rattle.runs.specs.Shown.{script_of}
 use Rattle.runs.specs.Progress.{pool_of, AtProgress}
+use Rattle.runs.proofs.Showing.{inside_more}
 use Rattle.runs.proofs.Soon.{SoonOf, soon_of}
 use Rattle.runs.proofs.Driving.{Moved, driven_over, driven_more, later}
 use Rattle.runs.proofs.Stepping.{DrivenBy, at_finished, at_released, at_acted, moved}
@@ -11,8 +12,14 @@ use Rattle.runs.proofs.progress.Progress.drive.Given.{Over}
 use Rattle.runs.proofs.progress.Progress.drive.Goals.{Start, In_ok-act, After-release, After-next_moment}
 use Rattle.runs.proofs.progress.Progress.drive.Goals as goal
 
+pub finish-requires : goal.finish-requires
+finish-requires g c = inside_more (vec_len c.loop-self.self.jobs) (length c.loop-self.log) _
+    (omega (arith, ap length c.loop-self.invariant.0, c.loop-self.self.jobs.ok.0, c.args.self.now.jobs.ok.0, c.requires.rows)) c.loop-self.self.inside
+
 pub returns-in_err-finish : goal.returns-in_err-finish
 returns-in_err-finish g c = record {
+  jobs = c.in_err-finish.ensures.stays.jobs ∙ c.loop-self.invariant.0;
+  cores = c.in_err-finish.ensures.stays.cores ∙ c.loop-self.invariant.2;
   ran = λ P a. (
       let p = c.loop-self.self in
       absurd (c.in_err-finish.ensures.goes P p.jobs.items c.args.arb.now (pool_of p) _ (c.loop-self.invariant.1 P a).at));
@@ -36,6 +43,8 @@ act-requires-clause-caught_up g c =
 
 pub returns-in_err-act : goal.returns-in_err-act
 returns-in_err-act g c = record {
+  jobs = c.in_err-act.ensures.stays.jobs ∙ c.release.ensures.jobs ∙ c.in_ok-finish.ensures.stays.jobs ∙ c.loop-self.invariant.0;
+  cores = c.in_err-act.ensures.stays.cores ∙ ap vec_len c.release.ensures.stages ∙ c.in_ok-finish.ensures.stays.cores ∙ c.loop-self.invariant.2;
   ran = λ P a. absurd (c.in_err-act.ensures.goes P c.args.arb.now _ (released g (goal.at.returns-in_err-act g c).After-release P (c.loop-self.invariant.1 P a)));
 }
 
@@ -65,6 +74,14 @@ granted g c P d h =
 same_jobs : (g : Over) (c : After-next_moment g) → c.grant.new.self.jobs.items ≡ c.args.self.now.jobs.items
 same_jobs g c = c.grant.ensures.stays.jobs ∙ c.in_ok-act.ensures.stays.jobs ∙ c.release.ensures.jobs ∙ c.in_ok-finish.ensures.stays.jobs ∙ c.loop-self.invariant.0
 
+same_cores : (g : Over) (c : After-next_moment g) → vec_len c.grant.new.self.stages ≡ vec_len c.args.self.now.stages
+same_cores g c = c.grant.ensures.stays.cores ∙ c.in_ok-act.ensures.stays.cores ∙ ap vec_len c.release.ensures.stages ∙ c.in_ok-finish.ensures.stays.cores ∙ c.loop-self.invariant.2
+
+pub next_moment-requires : goal.next_moment-requires
+next_moment-requires g c = inside_more (vec_len c.grant.new.self.jobs) (length c.grant.new.log) _
+    (omega (arith, ap length (c.grant.ensures.stays.jobs ∙ c.in_ok-act.ensures.stays.jobs ∙ c.release.ensures.jobs ∙ c.in_ok-finish.ensures.stays.jobs ∙ c.loop-self.invariant.0), c.grant.new.self.jobs.ok.0, c.args.self.now.jobs.ok.0, c.requires.rows))
+    c.grant.new.self.inside
+
 few : (g : Over) (c : After-next_moment g) → length c.grant.new.self.jobs.items ≤ 1024
 few g c = omega (arith, ap length (same_jobs g c), c.args.self.now.jobs.ok.0, c.requires.few)
 
@@ -90,11 +107,14 @@ loop-self-preserved g c =
           let d = c.loop-self.invariant.1 P a in
           let w = granted g q.After-next_moment P d (released g q.After-release P d) in
           driven_more g.met.B.Arbiter.lawful w c.in-Some.time (rw c.in-Some.is at (soon g q.After-next_moment)) (rw (same_jobs g q.After-next_moment) c.requires.short) (few g q.After-next_moment)),
+      same_cores g q.After-next_moment,
     )
 
 pub returns-in-None : goal.returns-in-None
 returns-in-None g c =
     let q = goal.at.returns-in-None g c in record {
+      jobs = same_jobs g q.After-next_moment;
+      cores = same_cores g q.After-next_moment;
       ran = λ P a. (
           let d = c.loop-self.invariant.1 P a in
           let w = granted g q.After-next_moment P d (released g q.After-release P d) in

@@ -1,25 +1,6 @@
-use Rattle.std.proofs.Common.{◌<◌, length, sym, ◌∙◌, arith}
-use Rattle.bus.specs.Means.{Laws}
-use Rattle.runs.proofs.Finishing.{finished_some, finished_none, finished_sure, finished_all}
-use Rattle.runs.proofs.progress.Progress.finish.Given.{Over}
-use Rattle.runs.proofs.progress.Progress.finish.Goals.{then-leaves_bus+in_ok-done, else-leaves_bus}
+use Rattle.std.proofs.Common.{arith}
+use Rattle.std.proofs.lemmas.List.{take_at}
 use Rattle.runs.proofs.progress.Progress.finish.Goals as goal
 
-laws : (g : Over) → Laws g.B.Arbiter.means
-laws g = g.met.B.Arbiter.lawful
-
-pub returns-in_err-done-clause-goes : goal.returns-in_err-done-clause-goes
-returns-in_err-done-clause-goes g c =
-    let l : c.loop-stage.stage-index < length c.loop-stage.stage-items = omega arith in
-    λ P J x pool S a. absurd (finished_sure (laws g) c.loop-stage.invariant l c.in_err-done.field-0.0 (sym c.leaves_bus.ensures ∙ c.if-leaves_bus.true) c.in_err-done.ensures.account P J x pool S a)
-
-pub loop-stage-preserved : goal.loop-stage-preserved
-loop-stage-preserved g c =
-    let l : c.loop-stage.stage-index < length c.loop-stage.stage-items = omega arith in
-    elim c.if-leaves_bus.branch [
-      | then-leaves_bus+in_ok-done w ↦ finished_some (laws g) c.loop-stage.invariant l (sym c.leaves_bus.ensures ∙ w.if-leaves_bus.true) w.on.ensures w.stage-items-is w.arb-is w.in_ok-done.ensures.account
-      | else-leaves_bus w ↦ finished_none (laws g) c.loop-stage.invariant l (sym c.leaves_bus.ensures ∙ w.if-leaves_bus.false) w.stage-items-is w.arb-is
-    ]
-
-pub returns-clause-goes : goal.returns-clause-goes
-returns-clause-goes g c = finished_all c.loop-stage.invariant c.args.self.now.stages.len _ (omega arith) (omega arith)
+pub invariant_of-self-clause-inside : goal.invariant_of-self-clause-inside
+invariant_of-self-clause-inside g c = rw (take_at c.finish_all.new.stages _ c.args.self.now.stages.len (omega arith)) (c.finish_all.ensures.keeps _ (rw c.deref_mut.ensures.value c.args.self.now.inside))
