@@ -1,2 +1,3 @@
 pub mod Lent
 pub mod Lines
+pub mod Texts

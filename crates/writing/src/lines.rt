@@ -9,9 +9,10 @@ use tasks::task::Row;
 
 // `window` or `late`, and the number.
 fn add_outcome<const ROOM: usize>(text: &mut Text<ROOM>, outcome: Outcome)
-    requires { length text.old + 28 ≤ ROOM }
-    ensures items { text.new ≡ text.old ++ outcome_text outcome }
-    ensures len { length text.new ≤ length text.old + 28 }
+    requires { length text.old.bytes + 28 ≤ ROOM }
+    ensures bytes { text.new.bytes ≡ text.old.bytes ++ outcome_text outcome }
+    ensures len { length text.new.bytes ≤ length text.old.bytes + 28 }
+    ensures room { text.old.room ≤ text.new.room }
 {
     match outcome {
         Outcome::Window(ticks) => {
@@ -27,9 +28,10 @@ fn add_outcome<const ROOM: usize>(text: &mut Text<ROOM>, outcome: Outcome)
 
 // One task: its id, its core, and its outcome.
 fn add_line<const ROOM: usize>(text: &mut Text<ROOM>, row: Row, outcome: Outcome)
-    requires { length text.old + 70 ≤ ROOM }
-    ensures items { text.new ≡ text.old ++ line row outcome }
-    ensures len { length text.new ≤ length text.old + 70 }
+    requires { length text.old.bytes + 70 ≤ ROOM }
+    ensures bytes { text.new.bytes ≡ text.old.bytes ++ line row outcome }
+    ensures len { length text.new.bytes ≤ length text.old.bytes + 70 }
+    ensures room { text.old.room ≤ text.new.room }
 {
     text.add_number(u64::from(row.id));
     text.add(b" ");
@@ -43,7 +45,8 @@ pub fn printed_text<const ROOM: usize>(text: &mut Text<ROOM>, rows: &[Row], outc
     requires few { length rows.now ≤ 64 }
     requires all { length outcomes.now ≡ length rows.now }
     requires room { 8192 ≤ ROOM }
-    ensures { text.new ≡ printed rows.now outcomes.now }
+    ensures bytes { text.new.bytes ≡ printed rows.now outcomes.now }
+    ensures room { text.old.room ≤ text.new.room }
 {
     text.clear();
     for (row, outcome) in rows.iter().zip(outcomes) {

@@ -11,9 +11,10 @@ use tasks::task::Row;
 
 // The platform's record: its length is 4 plus the favours.
 fn add_platform<const ROOM: usize>(text: &mut Text<ROOM>, platform: Platform)
-    requires { length text.old + 8 ≤ ROOM }
-    ensures items { text.new ≡ text.old ++ platform_bytes platform.cores (bottom_number platform.line.bottom) (favoured platform.line.favours) }
-    ensures len { length text.new ≤ length text.old + 8 }
+    requires { length text.old.bytes + 8 ≤ ROOM }
+    ensures bytes { text.new.bytes ≡ text.old.bytes ++ platform_bytes platform.cores (bottom_number platform.line.bottom) (favoured platform.line.favours) }
+    ensures len { length text.new.bytes ≤ length text.old.bytes + 8 }
+    ensures room { text.old.room ≤ text.new.room }
 {
     let kind = u8::from(Kind::Platform);
     let cores = platform.cores;
@@ -27,16 +28,18 @@ fn add_platform<const ROOM: usize>(text: &mut Text<ROOM>, platform: Platform)
 
 // Four bytes, the highest first.
 fn add_four<const ROOM: usize>(text: &mut Text<ROOM>, n: u32)
-    requires { length text.old + 4 ≤ ROOM }
-    ensures { text.new ≡ text.old ++ in_four n }
+    requires { length text.old.bytes + 4 ≤ ROOM }
+    ensures bytes { text.new.bytes ≡ text.old.bytes ++ in_four n }
+    ensures room { text.old.room ≤ text.new.room }
 {
     text.add(&n.to_be_bytes());
 }
 
 // A task's record: its length is 25.
 fn add_task<const ROOM: usize>(text: &mut Text<ROOM>, row: Row)
-    requires { length text.old + 27 ≤ ROOM }
-    ensures { text.new ≡ text.old ++ task_bytes row }
+    requires { length text.old.bytes + 27 ≤ ROOM }
+    ensures bytes { text.new.bytes ≡ text.old.bytes ++ task_bytes row }
+    ensures room { text.old.room ≤ text.new.room }
 {
     let kind = u8::from(Kind::Task);
     let [high, low] = row.id.to_be_bytes();
@@ -52,7 +55,8 @@ fn add_task<const ROOM: usize>(text: &mut Text<ROOM>, row: Row)
 pub fn sheet_text<const ROOM: usize>(text: &mut Text<ROOM>, platform: Platform, rows: &[Row])
     requires few { length rows.now ≤ 64 }
     requires room { 4096 ≤ ROOM }
-    ensures { text.new ≡ written (record { cores = platform.cores; bottom = bottom_number platform.line.bottom; favours = favoured platform.line.favours; rows = rows.now }) }
+    ensures bytes { text.new.bytes ≡ written (record { cores = platform.cores; bottom = bottom_number platform.line.bottom; favours = favoured platform.line.favours; rows = rows.now }) }
+    ensures room { text.old.room ≤ text.new.room }
 {
     text.clear();
     text.add(&[1]);

@@ -1,7 +1,8 @@
 // A text in reserved memory, and a text put into lent bytes.
-ghost use Rattle.std.specs.Prelude.{◌≡◌, ℕ, ◌+◌, ◌≤◌, List, [], ◌++◌, length, vec_len, vec_capacity, decimal, IfOk};
+ghost use Rattle.std.specs.Prelude.{◌≡◌, ◌+◌, ◌≤◌, [], ◌++◌, length, vec_len, vec_capacity, decimal, IfOk};
 ghost use Rattle.tasks.specs.Refusals.{answer};
 ghost use Rattle.writing.specs.Lent.{put_answer, fronted};
+ghost use Rattle.writing.specs.Texts.{Held};
 
 use itoa::Buffer;
 use std::alloc::{AllocError, Global};
@@ -17,16 +18,16 @@ pub struct Text<const ROOM: usize> {
 }
 
 impl<const ROOM: usize> Model for Text<ROOM> {
-    ghost Value = { List ℕ };
+    ghost Value = { Held };
 
-    ghost view = { λ text. text.bytes.items };
+    ghost view = { λ text. record { bytes = text.bytes.items; room = vec_capacity text.bytes } };
 
     ghost invariant = { λ text. ROOM ≤ vec_capacity text.bytes };
 }
 
 impl<const ROOM: usize> Text<ROOM> {
     pub fn with_room(heap: Global) -> Result<Text<ROOM>, AllocError>
-        ensures { IfOk result (λ text. text ≡ []) }
+        ensures { IfOk result (λ text. text.bytes ≡ []) }
     {
         Ok(Text {
             bytes: Vec::with_capacity(heap, ROOM)?,
@@ -36,44 +37,49 @@ impl<const ROOM: usize> Text<ROOM> {
     // A text over memory that someone else reserved, with what stands there.
     pub fn over(bytes: Vec<u8>) -> Text<ROOM>
         requires { ROOM ≤ vec_capacity bytes }
-        ensures { result ≡ bytes.items }
+        ensures bytes { result.bytes ≡ bytes.items }
+        ensures room { result.room ≡ vec_capacity bytes }
     {
         Text { bytes }
     }
 
     // The bytes, with their memory.
     pub fn into_bytes(self) -> Vec<u8>
-        ensures items { result.items ≡ self.entry }
-        ensures room { ROOM ≤ vec_capacity result }
+        ensures items { result.items ≡ self.entry.bytes }
+        ensures room { vec_capacity result ≡ self.entry.room }
+        ensures enough { ROOM ≤ vec_capacity result }
     {
         let Text { bytes } = self;
         bytes
     }
 
     pub fn as_slice(&self) -> &[u8]
-        ensures { result.now ≡ self.now }
+        ensures { result.now ≡ self.now.bytes }
     {
         self.bytes.as_slice()
     }
 
     pub fn clear(&mut self)
-        ensures { self.new ≡ [] }
+        ensures bytes { self.new.bytes ≡ [] }
+        ensures room { self.old.room ≤ self.new.room }
     {
         self.bytes.clear();
     }
 
     pub fn add(&mut self, more: &[u8])
-        requires { length self.old + length more.now ≤ ROOM }
-        ensures { self.new ≡ self.old ++ more.now }
+        requires { length self.old.bytes + length more.now ≤ ROOM }
+        ensures bytes { self.new.bytes ≡ self.old.bytes ++ more.now }
+        ensures room { self.old.room ≤ self.new.room }
     {
         add(&mut self.bytes, more);
     }
 
     // A number, as it is written.
     pub fn add_number(&mut self, n: u64)
-        requires { length self.old + 20 ≤ ROOM }
-        ensures items { self.new ≡ self.old ++ decimal n }
-        ensures len { length self.new ≤ length self.old + 20 }
+        requires { length self.old.bytes + 20 ≤ ROOM }
+        ensures bytes { self.new.bytes ≡ self.old.bytes ++ decimal n }
+        ensures len { length self.new.bytes ≤ length self.old.bytes + 20 }
+        ensures room { self.old.room ≤ self.new.room }
     {
         add_number(&mut self.bytes, n);
     }

@@ -1,5 +1,5 @@
 // Making a table, and its edits: each is judged first, and a refused one changes nothing.
-ghost use Rattle.std.specs.Prelude.{◌≡◌, true, [], IfOk};
+ghost use Rattle.std.specs.Prelude.{◌≡◌, true, [], IfOk, vec_capacity};
 ghost use Rattle.tasks.specs.Platforms.{cores_fit, favoured};
 ghost use Rattle.tasks.specs.Refusals.{answer};
 ghost use Rattle.rules.specs.Rules.{add_verdict, remove_verdict, change_verdict, with_row, without, replaced};
@@ -29,6 +29,7 @@ impl Table {
         requires { cores_fit platform.cores (favoured platform.line.favours) ≡ true }
         ensures platform { self.new.platform ≡ platform }
         ensures rows { self.new.rows.items ≡ [] }
+        ensures room { vec_capacity self.new.rows ≡ vec_capacity self.old.rows }
     {
         self.rows.clear();
         self.platform = platform;

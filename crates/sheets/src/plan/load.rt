@@ -1,5 +1,5 @@
 // Loading: the records of a sheet in order, each task as an add to those before it.
-ghost use Rattle.std.specs.Prelude.{◌≡◌, suc, length};
+ghost use Rattle.std.specs.Prelude.{◌≡◌, suc, length, vec_capacity};
 ghost use Rattle.tasks.specs.Refusals.{told};
 ghost use Rattle.sheets.specs.Records.{spot};
 ghost use Rattle.sheets.specs.Spelled.{rows_from, spelled, sheet_fault, plan_fault};
@@ -42,6 +42,7 @@ impl Fault {
 // Adds the tasks from the reader's place to the sheet's end.
 fn gather(reader: &mut Reader<'_>, table: &mut Table) -> Result<(), Fault>
     ensures platform { table.new.platform ≡ table.old.platform }
+    ensures room { vec_capacity table.new.rows ≡ vec_capacity table.old.rows }
     ensures value { gathered result table.new.rows.items ≡ rows_from (suc (length reader.old.sheet.now)) table.old.platform.cores reader.old.sheet.now reader.old.place table.old.rows.items }
 {
     while let Some(task) = later(reader)? {
@@ -53,9 +54,10 @@ fn gather(reader: &mut Reader<'_>, table: &mut Table) -> Result<(), Fault>
 }
 
 // The platform and the tasks that a sheet spells, in order, in place of what the table held. After a fault it holds what may
-// stand in a plan, and no more is said of it.
+// stand in a plan, and no more is said of it. Its room stays in either case.
 pub fn read_plan(sheet: &[u8], table: &mut Table) -> Result<(), Fault>
-    ensures { plan_seen result table.new ≡ spelled sheet.now }
+    ensures plan { plan_seen result table.new ≡ spelled sheet.now }
+    ensures room { vec_capacity table.new.rows ≡ vec_capacity table.old.rows }
 {
     let mut reader = Reader::new(sheet)?;
     let start = first(&mut reader)?;

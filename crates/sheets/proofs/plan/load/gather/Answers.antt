@@ -15,7 +15,7 @@ loop-task-preserved c =
     let ok : c.add.result ≡ Ok tt = search rules in
     let added : vec_items c.add.new.self.rows ≡ with_row (vec_items before.table.rows) c.in-Some.task.what = search rules in
     let accepted : add_verdict before.table.platform.cores (vec_items before.table.rows) c.in-Some.task.what ≡ Ok tt = search rules in
-    (rw (c.add.ensures.edited.1, c.later.ensures.moved, added) (after_a_task before.invariant.0 found accepted), c.add.ensures.edited.1 ∙ before.invariant.1)
+    (rw (c.add.ensures.edited.1, c.later.ensures.moved, added) (after_a_task before.invariant.0 found accepted), c.add.ensures.edited.1 ∙ before.invariant.1, c.add.ensures.edited.2 ∙ before.invariant.2)
 
 pub returns-in_err-map_err-clause-value : goal.returns-in_err-map_err-clause-value
 returns-in_err-map_err-clause-value c =
