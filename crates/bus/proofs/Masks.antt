@@ -1,11 +1,11 @@
 -- Who is in a mask, and what `|`, `^`, `&`, a count of trailing zeros and a rotation do to it. Assumes nothing.
-use Rattle.std.proofs.Common.{◌≡◌, ℕ, ◌+◌, ◌-◌, ◌*◌, ◌/◌, ◌%◌, ◌^◌, ◌<◌, ◌≤◌, max, true, false, ◌⊎◌, sym, refl, ap, ◌∙◌, inl, inr, add-zero, mul-one, arith}
+use Rattle.std.proofs.Common.{◌≡◌, ℕ, zero, suc, ◌+◌, ◌-◌, ◌*◌, ◌/◌, ◌%◌, ◌^◌, ◌<◌, ◌≤◌, max, true, false, ◌⊎◌, sym, refl, ap, ◌∙◌, inl, inr, add-zero, mul-one, pow-suc, arith}
 use Rattle.std.proofs.Math.Pow.{pow_mono}
 use Rattle.std.specs.Int.{bit_at, w16}
 use lib.Bits.{bit_and, bit_or, bit_xor}
-use lib.Count.{count_trailing_zeros}
+use lib.Count.{count_trailing_zeros, under}
 use Rattle.std.proofs.lemmas.Nat.{pow_pos, shl-shr, shr-shr, shr_split, or_lt, xor_lt, pow_below, shr_le, one_shl}
-use Rattle.std.proofs.lemmas.Nat.Bits.{bit_at-lt, bit_at-zero, bit_at_or, bit_at_xor, bit_at-pow_same, bit_at-pow_other, and_pow, bit_at_above, bit_at_cat_low, bit_at-trailing_zeros}
+use Rattle.std.proofs.lemmas.Nat.Bits.{bit_at-lt, bit_at-zero, bit_at-suc, bit_at_or, bit_at_xor, bit_at-pow_same, bit_at-pow_other, and_pow, bit_at_above, bit_at_cat_low, bit_at-trailing_zeros}
 use Rattle.std.proofs.lemmas.Bool.{cases_lt, cases_eq}
 use Rattle.bus.specs.Masks.{has}
 
@@ -16,6 +16,12 @@ has_one m p e = grind arith
 
 pub one_has : (m p : ℕ) → bit_at m p ≡ 1 → has m p ≡ true
 one_has m p e = grind arith
+
+pub has_zero : (m p : ℕ) → has m p ≡ false → bit_at m p ≡ 0
+has_zero m p e = grind (arith, bit_at-lt m p)
+
+pub zero_has : (m p : ℕ) → bit_at m p ≡ 0 → has m p ≡ false
+zero_has m p e = grind arith
 
 -- a port that waits is a port
 pub has_below : (m p k : ℕ) → m < 2 ^ k → has m p ≡ true → p < k
@@ -57,6 +63,61 @@ lowest_in m some low =
       first = λ p h. grind (arith, k.2 p);
     }
 
+pub has_some : (m : ℕ) → 0 < m → m < 2 ^ 16 → (p : ℕ) × (has m p ≡ true)
+has_some m some low = (lowest m, (lowest_in m (λ z. omega arith) low).waits)
+
+-- ---- the trailing zeros of a number of any width
+
+under_zero : (d t : ℕ) → d ≡ 0 → under d t ≡ suc t
+under_zero d t e = rw e refl
+
+under_one : (d t : ℕ) → d ≡ 1 → under d t ≡ 0
+under_one d t e = rw e refl
+
+zero_or_one : (n : ℕ) → (n % 2 ≡ 0) ⊎ (n % 2 ≡ 1)
+zero_or_one n = elim (cases_eq (n % 2) 0) [ inl e ↦ inl e | inr e ↦ inr (omega arith) ]
+
+-- the bit at the count is set, and none below it is
+pub trailing_digit : (k n : ℕ) → count_trailing_zeros k n < k → bit_at n (count_trailing_zeros k n) ≡ 1
+unfolding count_trailing_zeros
+trailing_digit zero n h = absurd (omega arith)
+trailing_digit (suc k) n h = elim (zero_or_one n) [
+  | inl e ↦ (
+      let u = under_zero (n % 2) (count_trailing_zeros k (n / 2)) e in
+      let l : count_trailing_zeros k (n / 2) < k = omega (arith, u) in
+      ap (bit_at n) u ∙ bit_at-suc n (count_trailing_zeros k (n / 2)) ∙ trailing_digit k (n / 2) l)
+  | inr e ↦ (
+      let u = under_one (n % 2) (count_trailing_zeros k (n / 2)) e in
+      ap (bit_at n) u ∙ (let z : n / 1 % 2 ≡ 1 = omega arith in z))
+]
+
+pub trailing_below : (k n i : ℕ) → i < count_trailing_zeros k n → bit_at n i ≡ 0
+unfolding count_trailing_zeros
+trailing_below zero n i h = absurd (omega arith)
+trailing_below (suc k) n zero h = elim (zero_or_one n) [
+  | inl e ↦ (let z : n / 1 % 2 ≡ 0 = omega arith in z)
+  | inr e ↦ absurd (omega (arith, under_one (n % 2) (count_trailing_zeros k (n / 2)) e))
+]
+trailing_below (suc k) n (suc i) h = elim (zero_or_one n) [
+  | inl e ↦ (
+      let u = under_zero (n % 2) (count_trailing_zeros k (n / 2)) e in
+      let l : i < count_trailing_zeros k (n / 2) = omega (arith, u) in
+      bit_at-suc n i ∙ trailing_below k (n / 2) i l)
+  | inr e ↦ absurd (omega (arith, under_one (n % 2) (count_trailing_zeros k (n / 2)) e))
+]
+
+-- a number that is not 0 has a bit
+pub trailing_lt : (k n : ℕ) → 0 < n → n < 2 ^ k → count_trailing_zeros k n < k
+unfolding count_trailing_zeros
+trailing_lt zero n p h = absurd (omega arith)
+trailing_lt (suc k) n p h = elim (zero_or_one n) [
+  | inl e ↦ (
+      let l : n / 2 < 2 ^ k = (let q : 2 ^ suc k ≡ 2 ^ k * 2 = pow-suc 2 k in omega arith) in
+      let ih = trailing_lt k (n / 2) (omega arith) l in
+      omega (arith, under_zero (n % 2) (count_trailing_zeros k (n / 2)) e, ih))
+  | inr e ↦ omega (arith, under_one (n % 2) (count_trailing_zeros k (n / 2)) e)
+]
+
 -- ---- with n ports, at most 16
 
 pub low_16 : (m n : ℕ) → m < 2 ^ n → n ≤ 16 → m < 2 ^ 16
@@ -84,13 +145,14 @@ flag_clear m a f e z = grind (arith, and_pow m a, bit_at-lt m a, pow_pos a)
 abbrev pub rotated : ℕ → ℕ → ℕ
 rotated n by = bit_or (n / 2 ^ (by % 16)) ((n * 2 ^ ((16 - by % 16) % 16)) % 2 ^ 16)
 
-bit_cut : (n k i : ℕ) → i < k → bit_at (n % 2 ^ k) i ≡ bit_at n i
+-- a bit below the cut outlives it, and what shifting up does to a bit
+pub bit_cut : (n k i : ℕ) → i < k → bit_at (n % 2 ^ k) i ≡ bit_at n i
 bit_cut n k i h = sym (bit_at_cat_low (n / 2 ^ k) k (n % 2 ^ k) i h) ∙ ap (λ x. bit_at x i) (shr_split n k)
 
-bit_shl_low : (n k i : ℕ) → i < k → bit_at (n * 2 ^ k) i ≡ 0
+pub bit_shl_low : (n k i : ℕ) → i < k → bit_at (n * 2 ^ k) i ≡ 0
 bit_shl_low n k i h = ap (λ x. bit_at x i) (sym (add-zero (n * 2 ^ k))) ∙ bit_at_cat_low n k 0 i h ∙ bit_at-zero i
 
-bit_shl_high : (n k i : ℕ) → bit_at (n * 2 ^ k) (k + i) ≡ bit_at n i
+pub bit_shl_high : (n k i : ℕ) → bit_at (n * 2 ^ k) (k + i) ≡ bit_at n i
 bit_shl_high n k i = ap (λ x. x % 2) (sym (shr-shr (n * 2 ^ k) k i) ∙ ap (λ x. x / 2 ^ i) (shl-shr n k))
 
 rotated_ways : (n by i j e : ℕ) → j ≡ by % 16 → e ≡ (16 - j) % 16 → n < 2 ^ 16 → i < 16 → (j ≡ 0) ⊎ (j ≡ 0 → ⊥) → (i < 16 - j) ⊎ (16 - j ≤ i)

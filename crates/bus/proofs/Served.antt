@@ -1,7 +1,15 @@
--- The port in service, and the 1 that it adds to what a joining port may wait for. Assumes nothing.
-use Rattle.std.proofs.Common.{◌≡◌, ℕ, true, false, Some, Option, arith}
+-- The port in service: whether there is one, and the 1 that it adds to what a joining port may wait for. Assumes nothing.
+use Rattle.std.proofs.Common.{◌≡◌, ℕ, true, false, is_some, Some, None, Option, refl, arith}
+use Rattle.std.proofs.lemmas.Bool.{both_ways}
 use Rattle.tasks.specs.Limits.{AtMost, more, Limit}
 use Rattle.bus.specs.Turns.{in_service, with_served}
+
+pub some_of : (s : Option ℕ) → is_some s ≡ true → (p : ℕ) × (s ≡ Some p)
+some_of None e = absurd (both_ways false refl e)
+some_of (Some p) e = (p, refl)
+
+pub none_of : (s : Option ℕ) → is_some s ≡ false → s ≡ None
+none_of s e = grind arith
 
 pub is_served : (s : Option ℕ) (p : ℕ) → in_service s p ≡ true → s ≡ Some p
 is_served s p e = grind arith

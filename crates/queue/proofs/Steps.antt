@@ -1,6 +1,5 @@
 -- What the queue's code does to its line. Assumes nothing.
-use Rattle.std.proofs.Common.{◌≡◌, ℕ, zero, suc, ◌+◌, ◌-◌, ◌<◌, ◌≤◌, true, false, List, [], ◌∷◌, ◌++◌, length, get_or, take, drop, set, sym, ap, ◌∙◌, inl, inr, arith, length-append}
-use Rattle.std.proofs.lemmas.Bool.{cases_eq}
+use Rattle.std.proofs.Common.{◌≡◌, ℕ, zero, suc, ◌+◌, ◌-◌, ◌<◌, ◌≤◌, true, false, List, [], ◌∷◌, ◌++◌, length, get_or, take, drop, set, sym, ap, ◌∙◌, arith, length-append}
 use Rattle.std.proofs.lemmas.Cmp.{nat_eq_equiv}
 use Rattle.std.proofs.lemmas.Grind.{common_steps}
 use Rattle.std.proofs.lemmas.List.{take_more_set, take-append-le, length-take-le}
@@ -9,15 +8,15 @@ use Rattle.std.proofs.lemmas.Map.Steps.{length-le_from_distinct_below}
 use Rattle.queue.specs.declared.Queue.{Queue}
 use Rattle.queue.specs.Lines.{among, Apart}
 use Rattle.queue.specs.Account.{line}
-use Rattle.queue.specs.Line.{among_other}
+use Rattle.queue.specs.Line.{among_other, below_joined}
 
-pub below_joined : (s : Queue) (a : ℕ) → a < s.ports.count → (p : ℕ) → among p (line s ++ (a ∷ [])) ≡ true → p < s.ports.count
-below_joined s a l p e = elim (cases_eq p a) [ inl q ↦ omega (arith, q, l) | inr ne ↦ s.below p (sym (among_other (line s) a p ne) ∙ e) ]
+pub joined_below : (s : Queue) (a : ℕ) → a < s.ports.count → (p : ℕ) → among p (line s ++ (a ∷ [])) ≡ true → p < s.ports.count
+joined_below s a l = below_joined s.ports.count (line s) a s.below l
 
 -- a port that does not wait finds room
 pub room : (s : Queue) (a : ℕ) → a < s.ports.count → among a (line s) ≡ false → s.len < 16
 room s a l f =
-    let most = length-le_from_distinct_below (line s ++ (a ∷ [])) s.ports.count (IsDistinct-push nat_eq_equiv (line s) a s.once f) (below_joined s a l) in
+    let most = length-le_from_distinct_below (line s ++ (a ∷ [])) s.ports.count (IsDistinct-push nat_eq_equiv (line s) a s.once f) (joined_below s a l) in
     omega (arith, most, length-append (line s) (a ∷ []), length-take-le s.len s.order s.fits, s.ports.few)
 
 pub joined_line : (s : Queue) (a end : ℕ) → end ≡ s.len → end < length s.order → take (s.len + 1) (set s.order end a) ≡ line s ++ (a ∷ [])
@@ -39,4 +38,4 @@ pub granted_line : (s : Queue) (after : List ℕ) → (s.len ≡ 0 → ⊥) → 
 granted_line s after n e = front s.len s.order (omega (arith, n)) s.fits ∙ ap (λ xs. get_or s.order 0 0 ∷ take (s.len - 1) xs) (sym e)
 
 -- what the calls' goals rest on
-pub ruleset line_steps = (first_waits, room, below_joined, joined_line, joined_apart, granted_line, among_other)
+pub ruleset line_steps = (first_waits, room, joined_below, joined_line, joined_apart, granted_line, among_other)

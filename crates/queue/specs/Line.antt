@@ -1,6 +1,7 @@
 -- Lemmas on ports in a line. Assumes nothing.
-use Rattle.std.specs.Prelude.{◌≡◌, ℕ, ◌≤◌, true, false, nat_eq, List, [], ◌∷◌, ◌++◌, ◌≢◌}
-use Rattle.std.proofs.Common.{arith}
+use Rattle.std.specs.Prelude.{◌≡◌, ℕ, ◌<◌, ◌≤◌, true, false, nat_eq, List, [], ◌∷◌, ◌++◌, ◌≢◌}
+use Rattle.std.proofs.Common.{sym, ◌∙◌, inl, inr, arith}
+use Rattle.std.proofs.lemmas.Bool.{cases_eq}
 use Rattle.std.proofs.lemmas.Grind.{common_steps}
 use Rattle.std.proofs.lemmas.List.Folds.{list_any-append}
 use Rattle.std.specs.List.{AllByRecursion}
@@ -14,6 +15,10 @@ among_end xs a = grind (arith, common_steps, list_any-append)
 
 pub among_other : (xs : List ℕ) (a p : ℕ) → (p ≢ a) → among p (xs ++ (a ∷ [])) ≡ among p xs
 among_other xs a p ne = grind (arith, common_steps, list_any-append)
+
+-- a line of ports below n that a port below n joins has only such
+pub below_joined : (n : ℕ) (xs : List ℕ) (a : ℕ) → ((p : ℕ) → among p xs ≡ true → p < n) → a < n → (p : ℕ) → among p (xs ++ (a ∷ [])) ≡ true → p < n
+below_joined n xs a h l p e = elim (cases_eq p a) [ inl q ↦ omega (arith, q, l) | inr ne ↦ h p (sym (among_other xs a p ne) ∙ e) ]
 
 -- the first stands nowhere else
 pub apart_first : (x : ℕ) (xs : List ℕ) → Apart (x ∷ xs) → among x xs ≡ false

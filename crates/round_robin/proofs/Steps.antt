@@ -21,10 +21,10 @@ pub found : (s : RoundRobin) (start r : ℕ) → (s.mask ≡ 0 → ⊥) → star
 found s start r n e f =
     let low = low_16 s.mask s.ports.count s.low s.ports.few in
     let near : s.next ≤ 16 = omega (arith, s.near, s.ports.few) in
-    let waited : has s.mask (chosen s.mask s.next) ≡ true = chosen_waits s.mask s.next low (some_wait s n) near in
+    let waited : has s.mask (chosen s.mask s.next) ≡ true = chosen_waits s.mask s.next low (omega (arith, n)) near in
     let at : Found s (chosen s.mask s.next) = record {
       waited = waited;
-      first = chosen_first s.mask s.next low (some_wait s n) near;
+      first = chosen_first s.mask s.next low (omega (arith, n)) near;
       port = has_below s.mask _ s.ports.count s.low waited;
     } in
     subst (Found s) (ap (λ x. (x + lowest (rotated s.mask x)) % 16) (sym e) ∙ ap (λ x. (start + lowest x) % 16) (sym f)) at

@@ -4,7 +4,7 @@ use Rattle.std.proofs.Common.{sym, ap, ◌∙◌, arith}
 use Rattle.std.specs.Int.{bit_at}
 use Rattle.std.proofs.lemmas.Bool.Decides.{nat_tests}
 use Rattle.bus.specs.Masks.{has}
-use Rattle.bus.proofs.Masks.{has_not, one_has, has_one, has_below, Lowest, lowest, lowest_in, rotated, bit_at_rotated, rotated_lt}
+use Rattle.bus.proofs.Masks.{has_not, has_some, one_has, has_one, has_below, Lowest, lowest, lowest_in, rotated, bit_at_rotated, rotated_lt}
 use Rattle.round_robin.specs.Rings.{place}
 
 -- 1 if the count from s comes to b before a, else 0
@@ -30,7 +30,7 @@ place_is s x i hs hi e = grind (arith, nat_tests)
 abbrev pub chosen : ℕ → ℕ → ℕ
 chosen m s = (s + lowest (rotated m s)) % 16
 
-module _ (m s : ℕ) (low : m < 2 ^ 16) (some : (p : ℕ) × (has m p ≡ true)) (near : s ≤ 16) where
+module _ (m s : ℕ) (low : m < 2 ^ 16) (some : 0 < m) (near : s ≤ 16) where
   -- port p is bit (p + 16 - s % 16) % 16 of the rotated mask
   seen : (p : ℕ) → has m p ≡ true → has (rotated m s) ((p + 16 - s % 16) % 16) ≡ true
   seen p h =
@@ -39,7 +39,7 @@ module _ (m s : ℕ) (low : m < 2 ^ 16) (some : (p : ℕ) × (has m p ≡ true))
       one_has (rotated m s) _ (bit_at_rotated m s ((p + 16 - s % 16) % 16) low (omega arith) ∙ ap (bit_at m) b ∙ has_one m p h)
 
   first_seen : Lowest (rotated m s) (lowest (rotated m s))
-  first_seen = lowest_in (rotated m s) (λ z. has_not (rotated m s) _ z (seen some.0 some.1)) (rotated_lt m s low)
+  first_seen = let waits = has_some m some low in lowest_in (rotated m s) (λ z. has_not (rotated m s) _ z (seen waits.0 waits.1)) (rotated_lt m s low)
 
   pub chosen_waits : has m (chosen m s) ≡ true
   chosen_waits = ap (λ x. x == 1) (sym (bit_at_rotated m s (lowest (rotated m s)) low first_seen.within)) ∙ first_seen.waits

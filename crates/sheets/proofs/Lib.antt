@@ -1,4 +1,5 @@
 mod Gathering
+pub mod Loaded
 mod InBytes
 mod SavedAgain
 pub mod LoadedAgain

@@ -9,7 +9,7 @@ use Rattle.tasks.specs.Refusals.{Told}
 use Rattle.tasks.specs.Rows.{no_row, bounded}
 use Rattle.tasks.proofs.Verdicts.{bounded_is_accepted}
 use Rattle.rules.proofs.Found.{place_none, clash_none}
-use Rattle.rules.specs.Rules.{EachATask, AllApart, known, clash, clashes, add_verdict, with_row, is_task_of, apart}
+use Rattle.rules.specs.Rules.{known, clash, clashes, add_verdict, with_row, is_task_of, apart}
 use Rattle.sheets.specs.Bytes.{two, in_two}
 use Rattle.sheets.specs.Records.{Part, head_of, present, record_at, place_after, start_of}
 use Rattle.sheets.specs.Entries.{Held, platform, task, if_ok, held_in}
@@ -19,6 +19,7 @@ use Rattle.sheets.specs.Written.{platform_bytes, body_bytes, task_bytes, tasks_b
 use Rattle.sheets.specs.Theorems.{ASavedPlanLoadsAsItself}
 use Rattle.sheets.proofs.Gathering.{admitted}
 use Rattle.sheets.proofs.InBytes.{two_of, row_of}
+use Rattle.sheets.proofs.Loaded.{SoundRows}
 
 -- ---- a record
 
@@ -47,12 +48,6 @@ apart_ids old new p q = grind (arith, nat_tests)
 
 apart_ranks : (old new : Row) → apart old new ≡ true → clash new old ≡ false
 apart_ranks old new p = grind (arith, nat_tests)
-
--- what the rows of a plan keep
-record SoundRows (cores : ℕ) (rows : List Row) : Type 0 where
-  pub few : length rows ≤ 64
-  pub each : EachATask cores rows
-  pub apart : AllApart rows
 
 accepted : (cores : ℕ) (before : List Row) (row : Row) (rows : List Row) → SoundRows cores (before ++ (row ∷ rows)) → add_verdict cores before row ≡ Ok tt
 accepted cores before row rows sound =

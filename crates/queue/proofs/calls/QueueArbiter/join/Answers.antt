@@ -3,7 +3,7 @@ use Rattle.bus.proofs.Served.{not_served}
 use Rattle.queue.specs.Lines.{among, Apart}
 use Rattle.queue.specs.Account.{line}
 use Rattle.queue.specs.Line.{among_other}
-use Rattle.queue.proofs.Steps.{room, below_joined, joined_line, joined_apart}
+use Rattle.queue.proofs.Steps.{room, joined_below, joined_line, joined_apart}
 use Rattle.queue.proofs.calls.QueueArbiter.join.Goals as goal
 
 pub invariant_of-self-clause-fits : goal.invariant_of-self-clause-fits
@@ -13,7 +13,7 @@ pub invariant_of-self-clause-below : goal.invariant_of-self-clause-below
 invariant_of-self-clause-below c p e =
     let s = c.args.self.now in
     let h = c.in_ok-check.ensures in
-    below_joined s c.args.a h p (ap (among p) (sym (joined_line s c.args.a c.from.result c.from.ensures (omega (arith, room s c.args.a h (sym c.if-has.ensures))))) ∙ e)
+    joined_below s c.args.a h p (ap (among p) (sym (joined_line s c.args.a c.from.result c.from.ensures (omega (arith, room s c.args.a h (sym c.if-has.ensures))))) ∙ e)
 
 pub invariant_of-self-clause-once : goal.invariant_of-self-clause-once
 invariant_of-self-clause-once c =
