@@ -1,5 +1,5 @@
 // A script by ids, looked up in the rows of a plan.
-ghost use Rattle.std.specs.Prelude.{◌≡◌, ℕ, ◌≤◌, [], ◌∷◌, true, false, length, IfSome, IfNone, OnOk, IfErr, slice_index_or, vec_capacity};
+ghost use Rattle.std.specs.Prelude.{◌≡◌, ℕ, ◌≤◌, [], ◌∷◌, true, false, length, IfSome, IfNone, OnOk, IfErr, slice_index_or};
 ghost use Rattle.tasks.specs.Rows.{no_row};
 ghost use Rattle.tasks.specs.Refusals.{told, numbered};
 ghost use Rattle.argument.specs.Plans.{plan_of};
@@ -7,8 +7,9 @@ ghost use Rattle.bridge.specs.Scripts.{LawfulScript};
 ghost use Rattle.runs.specs.Rows.{job_on};
 ghost use Rattle.runner.specs.Lookups.{jobs_for, script_for, FirstFault, Possible, Apart, AllApart, Admitted};
 
+use crate::jobs::JobList;
 use rules::lookup::place_of;
-use runs::progress::{MOST_JOBS, Progress};
+use runs::progress::MOST_JOBS;
 use runs::rows::{Job, ScriptRow};
 use tasks::refusal::Refusal;
 use tasks::task::Row;
@@ -63,20 +64,19 @@ fn admit(rows: &[Row], row: &ScriptRow, earlier: &[Job]) -> Option<Job>
     }
 }
 
-// Looks every row up, in order.
+// Looks every row up, in order, and puts its job into the list.
 // Refused: 19, the first faulty row.
-pub fn look_up(rows: &[Row], script: &[ScriptRow], progress: &mut Progress) -> Result<(), Refusal>
-    requires { length rows.now ≤ 64 }
-    ensures found { OnOk result ((progress.new.jobs.items ≡ jobs_for rows.now script.now) × (length script.now ≤ 1024) × LawfulScript (plan_of 0 rows.now) (script_for rows.now script.now)) }
-    ensures room { vec_capacity progress.new.jobs ≡ vec_capacity progress.old.jobs }
-    ensures cores { progress.new.stages.items ≡ [] }
-    ensures ready { progress.new.ready.items.items ≡ [] }
+pub fn look_up<L: JobList>(rows: &[Row], script: &[ScriptRow], jobs: &mut L) -> Result<(), Refusal>
+    requires few { length rows.now ≤ 64 }
+    requires room { L.has_room jobs.old }
+    ensures found { OnOk result ((L.jobs jobs.new ≡ jobs_for rows.now script.now) × (length script.now ≤ 1024) × LawfulScript (plan_of 0 rows.now) (script_for rows.now script.now)) }
+    ensures cleared { L.cleared jobs.old jobs.new }
     ensures fault { IfErr result (λ e. (k : ℕ) × (told e ≡ numbered 19 (k ∷ [])) × FirstFault rows.now script.now k) }
 {
-    progress.clear();
+    jobs.clear();
     for (k, row) in script.iter().enumerate() {
-        let job = admit(rows, row, progress.jobs()).ok_or(Refusal::Script(k))?;
-        progress.add(job);
+        let job = admit(rows, row, jobs.as_slice()).ok_or(Refusal::Script(k))?;
+        jobs.push(job);
     }
     Ok(())
 }

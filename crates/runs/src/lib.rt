@@ -2,6 +2,7 @@
 #![tactic(auto)]
 
 pub mod act;
+pub mod drive;
 pub mod finish;
 pub mod grant;
 pub mod moment;

@@ -1,4 +1,5 @@
 // From moment to moment, until nothing is left to come.
+use crate::drive::drive;
 use crate::progress::Progress;
 use crate::rows::LogRow;
 use bus::arbiter::Arbiter;
@@ -21,15 +22,16 @@ impl Progress {
         ensures ran { (P : Plan) → AtProgress B.Arbiter.means P arb.old arb.old self.old log.old begun
             → MatchResult result (λ _. Ran B.Arbiter.means P (script_of self.old.jobs.items) arb.old arb.new log.new) (λ _. ⊥) }
     {
-        loop {
-            self.finish(log, arb)?;
-            self.release();
-            self.act(log, arb)?;
-            self.grant(log, arb);
-            match self.next_moment(log) {
-                Some(time) => self.time = time,
-                None => return Ok(()),
-            }
-        }
+        let cores = self.stages.len() as u8;
+        drive(
+            &self.jobs,
+            cores,
+            &mut self.time,
+            &mut self.released,
+            &mut self.stages,
+            &mut self.ready,
+            log,
+            arb,
+        )
     }
 }
