@@ -7,7 +7,7 @@ use runs::rows::Job;
 mod progress;
 
 // A list that takes one job after the other: a vector, or the record of a run.
-pub trait JobList: Drop {
+pub trait JobList {
     // The jobs, in their order.
     ghost jobs: { Self → List Job };
 

@@ -80,3 +80,45 @@ pub fn look_up<L: JobList>(rows: &[Row], script: &[ScriptRow], jobs: &mut L) -> 
     }
     Ok(())
 }
+
+#[cfg(test)]
+mod tests {
+    use super::look_up;
+    use runs::progress::MOST_JOBS;
+    use runs::rows::ScriptRow;
+    use std::test::Fail;
+    use tasks::refusal::Refusal;
+    use tasks::task::Row;
+
+    // Into a vector of one's own. The job of the first script is gone when the second is looked up.
+    #[test]
+    fn a_script_is_looked_up_into_a_vector(rt: HostRuntime) -> Result<(), Fail> {
+        let task = Row {
+            id: 7,
+            core: 1,
+            rank: 0,
+            spacing: 20,
+            deadline: 20,
+            a: 2,
+            e: 3,
+            r: 1,
+        };
+        let row = ScriptRow {
+            id: 7,
+            release: 0,
+            a: 2,
+            e: 3,
+            r: 1,
+        };
+        let mut jobs = Vec::with_capacity(rt.alloc(), MOST_JOBS)?;
+        assert_eq!(rt; look_up(&[task], &[row], &mut jobs), Ok(()));
+        assert_eq!(rt; jobs.len(), 1);
+        let later = ScriptRow { release: 19, ..row };
+        assert_eq!(rt;
+            look_up(&[task], &[row, later], &mut jobs),
+            Err(Refusal::Script(1))
+        );
+        assert_eq!(rt; jobs.len(), 1);
+        Ok(())
+    }
+}

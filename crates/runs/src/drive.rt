@@ -17,7 +17,7 @@ use bus::arbiter::Arbiter;
 use roster::Roster;
 use tasks::refusal::Refusal;
 
-// Begins at moment 0, where some rows may be released already, and leaves the last moment, and how many rows are released by then.
+// Begins at moment 0, where some rows may be released already. Moment and count go on in the places that are lent.
 pub fn drive<B: Arbiter>(
     jobs: &[Job],
     cores: u8,
